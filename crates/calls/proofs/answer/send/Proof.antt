@@ -1,0 +1,19 @@
+-- `calls::answer::send` meets its contract. Assumes nothing.
+use Prim.Native.Nat.{_-_}
+use mathlib.Core.Path.{sym}
+use borrow.Author.Needs.{needs}
+use lib.Seq.{length-take-le}
+use Rattle.calls.proofs.answer.send.Statement.{statement}
+use Rattle.calls.proofs.answer.send.Tie as tie
+
+slice-aggregate-write-all : tie.Need-slice-aggregate-write-all
+slice-aggregate-write-all c = sym (length-take-le _ _ (c .before .before .pre))
+
+write-all-requires : tie.Need-write-all-requires
+write-all-requires c κs = search needs
+
+returns : tie.Need-returns
+returns c = search needs
+
+pub send-spec : {M : Type 1} → statement M
+send-spec = tie.close (tie.spec slice-aggregate-write-all write-all-requires returns)

@@ -1,0 +1,89 @@
+-- `calls::answer::values` meets its contract: the block keeps its length, and the text stays within it. Assumes nothing.
+use Prim.Native.Nat.{_-_, _≤_}
+use mathlib.Core.Path.{_≡_}
+use native.Mathlib.Omega.{arith}
+use borrow.Author.Needs.{needs}
+use lib.ListN.{length}
+use Rattle.calls.proofs.answer.values.Statement.{statement}
+use Rattle.calls.proofs.answer.values.Tie as tie
+
+abbrev Inv-loop : tie.InvT-loop
+Inv-loop block₀ at s to₀ i₀ block to i = (32 ≤ length block) × (to ≤ length block) × (length block ≡ length block₀)
+
+abbrev μ-loop : tie.MeasureT-loop
+μ-loop block₀ at s to₀ i₀ block to i = length s - i
+
+end-requires : tie.Need-end-requires Inv-loop μ-loop
+end-requires c κs = search needs
+
+same-length : tie.Need-same-length Inv-loop μ-loop
+same-length c = omega arith
+
+returns : tie.Need-returns Inv-loop μ-loop
+returns c = search needs
+
+shared-slice-read-wide-value : tie.Need-shared-slice-read-wide-value Inv-loop μ-loop
+shared-slice-read-wide-value c = omega arith
+
+wide-value-requires : tie.Need-wide-value-requires Inv-loop μ-loop
+wide-value-requires c κs = search needs
+
+first-requires : tie.Need-first-requires Inv-loop μ-loop
+first-requires c κs = search needs
+
+loop-holds : tie.Need-loop-holds Inv-loop μ-loop
+loop-holds c = search needs
+
+mul-wide-value : tie.Need-mul-wide-value Inv-loop μ-loop
+mul-wide-value c = omega arith
+
+shared-slice-read-wide-value-2 : tie.Need-shared-slice-read-wide-value-2 Inv-loop μ-loop
+shared-slice-read-wide-value-2 c = omega arith
+
+wide-value-requires-2 : tie.Need-wide-value-requires-2 Inv-loop μ-loop
+wide-value-requires-2 c κs = search needs
+
+put-requires : tie.Need-put-requires Inv-loop μ-loop
+put-requires c κs = search needs
+
+add-i : tie.Need-add-i Inv-loop μ-loop
+add-i c = omega arith
+
+loop-less : tie.Need-loop-less Inv-loop μ-loop
+loop-less c = omega arith
+
+loop-again : tie.Need-loop-again Inv-loop μ-loop
+loop-again c = search needs
+
+end-requires-2 : tie.Need-end-requires-2 Inv-loop μ-loop
+end-requires-2 c κs = search needs
+
+same-length-2 : tie.Need-same-length-2 Inv-loop μ-loop
+same-length-2 c = omega arith
+
+returns-2 : tie.Need-returns-2 Inv-loop μ-loop
+returns-2 c = search needs
+
+pub values-spec : {M : Type 1} → statement M
+values-spec =
+    tie.close
+    (tie.spec
+    Inv-loop
+    μ-loop
+    end-requires
+    same-length
+    returns
+    shared-slice-read-wide-value
+    wide-value-requires
+    first-requires
+    loop-holds
+    mul-wide-value
+    shared-slice-read-wide-value-2
+    wide-value-requires-2
+    put-requires
+    add-i
+    loop-less
+    loop-again
+    end-requires-2
+    same-length-2
+    returns-2)

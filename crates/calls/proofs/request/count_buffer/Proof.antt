@@ -1,0 +1,51 @@
+-- `calls::request::count_buffer` meets its contract. Assumes nothing.
+use Prim.Native.Nat.{_-_}
+use borrow.Author.Needs.{needs}
+use Rattle.calls.proofs.Laws.{still}
+use Rattle.calls.proofs.request.count_buffer.Statement.{statement}
+use Rattle.calls.proofs.request.count_buffer.Tie as tie
+
+size-requires : tie.Need-size-requires
+size-requires c κs = search needs
+
+number-requires : tie.Need-number-requires
+number-requires c κs = search needs
+
+enum-known-v : tie.Need-enum-known-v
+enum-known-v c = search needs
+
+enum-told : tie.Need-enum-told
+enum-told c = search needs
+
+cut-requires : tie.Need-cut-requires
+cut-requires c κs = search needs
+
+returns : tie.Need-returns
+returns c = search needs
+
+cast-fill-counts : tie.Need-cast-fill-counts
+cast-fill-counts c = search needs
+
+fill-counts-requires : tie.Need-fill-counts-requires
+fill-counts-requires c κs = search needs
+
+same-length : tie.Need-same-length
+same-length c = search needs
+
+returns-2 : tie.Need-returns-2
+returns-2 c = still _ (c .before .before .before .before .before .before .before .before .before .before .args .space .now) _ (c .before .before .before .before .before .before .before .before .size .ensures) (c .before .before .fill-counts .kept .0)
+
+pub count-buffer-spec : {M : Type 1} → statement M
+count-buffer-spec =
+    tie.close
+    (tie.spec
+    size-requires
+    number-requires
+    enum-known-v
+    enum-told
+    cut-requires
+    returns
+    cast-fill-counts
+    fill-counts-requires
+    same-length
+    returns-2)

@@ -1,0 +1,47 @@
+-- `calls::request::counts` meets its contract. Assumes nothing.
+use Prim.Native.Nat.{_-_}
+use borrow.Author.Needs.{needs}
+use Rattle.calls.proofs.Laws.{still}
+use Rattle.calls.proofs.request.counts.Statement.{statement}
+use Rattle.calls.proofs.request.counts.Tie as tie
+
+size-requires : tie.Need-size-requires
+size-requires c κs = search needs
+
+large-buffer-requires : tie.Need-large-buffer-requires
+large-buffer-requires c κs = search needs
+
+slice-aggregate-fours : tie.Need-slice-aggregate-fours
+slice-aggregate-fours c = search needs
+
+fours-requires : tie.Need-fours-requires
+fours-requires c κs = search needs
+
+same-length : tie.Need-same-length
+same-length c = search needs
+
+returns : tie.Need-returns
+returns c = still _ (c .before .before .before .before .before .before .before .before .before .before .args .space .now) _ (c .before .before .before .before .before .before .before .before .size .ensures) (c .before .before .before .before .fours .kept .1 .0)
+
+cut-requires : tie.Need-cut-requires
+cut-requires c κs = search needs
+
+same-length-2 : tie.Need-same-length-2
+same-length-2 c = search needs
+
+returns-2 : tie.Need-returns-2
+returns-2 c = search needs
+
+pub counts-spec : {M : Type 1} → statement M
+counts-spec =
+    tie.close
+    (tie.spec
+    size-requires
+    large-buffer-requires
+    slice-aggregate-fours
+    fours-requires
+    same-length
+    returns
+    cut-requires
+    same-length-2
+    returns-2)

@@ -1,0 +1,39 @@
+-- `calls::request::levels` meets its contract. Assumes nothing.
+use Prim.Native.Nat.{_-_}
+use borrow.Author.Needs.{needs}
+use Rattle.calls.proofs.Laws.{still}
+use Rattle.calls.proofs.request.levels.Statement.{statement}
+use Rattle.calls.proofs.request.levels.Tie as tie
+
+size-requires : tie.Need-size-requires
+size-requires c κs = search needs
+
+exactly-requires : tie.Need-exactly-requires
+exactly-requires c κs = search needs
+
+same-length : tie.Need-same-length
+same-length c = search needs
+
+returns : tie.Need-returns
+returns c = still _ (c .before .before .before .before .before .before .before .args .space .now) _ (c .before .before .before .before .before .size .ensures) (c .before .before .before .exactly .kept .0)
+
+cut-requires : tie.Need-cut-requires
+cut-requires c κs = search needs
+
+same-length-2 : tie.Need-same-length-2
+same-length-2 c = search needs
+
+returns-2 : tie.Need-returns-2
+returns-2 c = search needs
+
+pub levels-spec : {M : Type 1} → statement M
+levels-spec =
+    tie.close
+    (tie.spec
+    size-requires
+    exactly-requires
+    same-length
+    returns
+    cut-requires
+    same-length-2
+    returns-2)

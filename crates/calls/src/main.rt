@@ -1,0 +1,113 @@
+// The program `calls`: every public call, driven from standard input, so that any language can call
+// the library and a second program can be held against it. A request is a letter and the call's
+// arguments; its answer is a line, and one line more for each buffer that was lent.
+mod answer;
+mod each;
+mod request;
+
+ghost use mathlib.Core.Path.{_≡_};
+ghost use Prim.Native.Nat.{_≤_};
+ghost use lib.ListN.{length};
+ghost use Rattle.calls.specs.Space.{Places};
+use request::Next;
+
+// How a turn ended.
+const ANSWERED: u8 = 0;
+
+const NO_MORE: u8 = 1;
+
+const BAD: u8 = 2;
+
+// A request by its letter: whether it was whole, and so has been answered. Each call reads its own
+// arguments, into the spaces that it needs, and writes its answer by way of the block.
+fn call(
+    letter: u8,
+    block: &mut [u8],
+    levels: &mut [u8],
+    one: &mut [u16],
+    two: &mut [u16],
+    counts: &mut [u32],
+) -> bool
+    requires { ⌜ 32 ≤ length (now block) ⌝ }
+{
+    match letter {
+        b'l' => each::length(block),
+        _ => false,
+    }
+}
+
+// One request, and how it ended.
+fn turn(
+    block: &mut [u8],
+    levels: &mut [u8],
+    one: &mut [u16],
+    two: &mut [u16],
+    counts: &mut [u32],
+) -> u8
+    requires { ⌜ 32 ≤ length (now block) ⌝ }
+{
+    let Next::Letter(letter) = request::beginning() else {
+        return NO_MORE;
+    };
+    let good = call(letter, block, levels, one, two, counts);
+    if good {
+        return ANSWERED;
+    }
+    BAD
+}
+
+// The run's last line.
+fn finish(how: u8, answered: u64) {
+    if how == NO_MORE {
+        answer::last(b"answered ", answered);
+        return;
+    }
+    answer::last(b"bad request ", answered);
+}
+
+// Requests, one after the other. Nothing says that the input ends, so the count of them is what
+// ends the loop, at a number that no run reaches.
+fn serve(block: &mut [u8], levels: &mut [u8], one: &mut [u16], two: &mut [u16], counts: &mut [u32])
+    requires { ⌜ 32 ≤ length (now block) ⌝ }
+{
+    let mut answered: u64 = 0;
+    while answered < 18446744073709551615 {
+        let how = turn(block, levels, one, two, counts);
+        if how != ANSWERED {
+            finish(how, answered);
+            return;
+        }
+        answered += 1;
+    }
+}
+
+// The longest slices and buffers that a request can name: one element more than any picture has, so
+// that one too many can be shown, and 4,096 counts.
+fn level_space() -> [u8; 1048577]
+    ensures { λ r. ⌜ Places 1048577 r ⌝ }
+{
+    [0; 1048577]
+}
+
+fn value_space() -> [u16; 1048577]
+    ensures { λ r. ⌜ Places 1048577 r ⌝ }
+{
+    [0; 1048577]
+}
+
+fn count_space() -> [u32; 4096]
+    ensures { λ r. ⌜ 4096 ≡ length r ⌝ }
+{
+    [0; 4096]
+}
+
+// The spaces are made once and lent, so that no request pays for clearing them: 5 MiB of the 8 that
+// a stack has.
+fn main() {
+    let mut block = io::large_buffer();
+    let mut levels = level_space();
+    let mut one = value_space();
+    let mut two = value_space();
+    let mut counts = count_space();
+    serve(&mut block, &mut levels, &mut one, &mut two, &mut counts);
+}

@@ -1,0 +1,16 @@
+-- What the C face promises is determined, as what it stands on is. Assumes nothing.
+use mathlib.Core.Path.{_≡_, ap}
+use Prim.Native.Nat.{ℕ}
+use lib.IntN.{ℤ}
+use Rattle.units.specs.Units.{sixteenths, picometres}
+use Rattle.length.specs.declared.Sharpness.{Sharpness}
+use Rattle.length.specs.Length.{answer, LengthIs}
+use Rattle.length.proofs.Laws.{one-answer}
+
+-- any two outcomes that `gong_length` is permitted, the number that it returns and the length that it writes, are equal
+module _ (factor : ℤ) (pixel : ℕ) (n q n' q' : ℕ) (this : LengthIs (sixteenths factor) (picometres pixel) (answer n q)) (that : LengthIs (sixteenths factor) (picometres pixel) (answer n' q')) where
+  same : answer n q ≡ answer n' q'
+  same = one-answer (sixteenths factor) (picometres pixel) (answer n q) (answer n' q') this that
+
+  pub one-length : (n ≡ n') × (q ≡ q')
+  one-length = (ap (λ (r : Sharpness). r .number) same, ap (λ (r : Sharpness). r .length .0) same)

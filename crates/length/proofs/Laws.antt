@@ -1,0 +1,75 @@
+-- Laws of the definition: what halving finds in ℕ is the document's length, and the answer is determined. Assumes nothing.
+use mathlib.Core.Path.{_≡_, refl, sym, ap, _∙_}
+use Prim.Native.Nat.{ℕ, _+_, _*_, _/_, _≤_}
+use native.Mathlib.Nat.{mul-le-mul, mul-le-mul-left, le-trans, lt-of-not-le}
+use native.Mathlib.Omega.{arith}
+use lib.IntN.{ℤ, pos}
+use Rattle.numbers.specs.Greatest.{Greatest, Between, Falling}
+use Rattle.numbers.specs.Signed.{natOf}
+use Rattle.numbers.proofs.Order.{to-ℤ, of-ℤ, positive}
+use Rattle.numbers.proofs.Refusals.{goes-on, together}
+use Rattle.numbers.proofs.Greatest.{one-greatest, reworded}
+use Rattle.units.specs.declared.Sixteenths.{Sixteenths}
+use Rattle.units.specs.declared.Picometres.{Picometres}
+use Rattle.length.specs.declared.Sharpness.{Sharpness}
+use Rattle.length.specs.Length.{InRange, AtMost, Done, answer, LengthIs}
+
+-- what is at most t stays so for each smaller number
+pub falling : (t : ℕ) → Falling (λ q. 512 * (q * q) ≤ t)
+falling t j k le h = le-trans (mul-le-mul-left 512 (mul-le-mul le le)) h
+
+-- f sixteenths and p picometres are in range, and q is their length, all in natural numbers
+pub record Found (f p q : ℕ) : Type 0 where
+  pub low : 1 ≤ f
+  pub high : f ≤ 16384
+  pub small : 1 ≤ p
+  pub large : p ≤ 100000
+  pub length : Greatest (λ q. 512 * (q * q) ≤ p * f * (p * f)) q
+
+-- it is the document's length
+module _ (s : Sixteenths) (p : Picometres) (r : Sharpness) (found : Found (natOf (s .0)) (p .0) (r .length .0)) where
+  whole : s .0 ≡ pos (natOf (s .0))
+  whole = positive (s .0) (found .low)
+
+  in-range : InRange s p
+  in-range =
+      record {
+        factor-low = rw whole (to-ℤ (found .low));
+        factor-high = rw whole (to-ℤ (found .high));
+        pixel-low = found .small;
+        pixel-high = found .large;
+      }
+
+  greatest : Greatest (AtMost s p) (r .length .0)
+  greatest = rw whole (reworded (λ (k : ℕ) h. to-ℤ h) (λ (k : ℕ) h. of-ℤ h) (found .length))
+
+  pub is-the-length : r .number ≡ 0 → LengthIs s p r
+  is-the-length done = goes-on in-range (record { number = done; length = greatest })
+
+-- the product and its square have room in 64 bits
+pub product : {f p : ℕ} → f ≤ 16384 → p ≤ 100000 → p * f ≤ 1638400000
+product f p = mul-le-mul p f
+
+pub squared : {t : ℕ} → t ≤ 1638400000 → t * t ≤ 1638400000 * 1638400000
+squared h = mul-le-mul h h
+
+-- the interval that halving starts with: 512 lies between the squares of 22 and 23
+pub start : (x : ℕ) → Between (λ q. 512 * (q * q) ≤ x * x) (x / 23) (x / 22 + 1)
+start x =
+    let below : 23 * (x / 23) ≤ x = omega arith in
+    record {
+      low = omega (arith, mul-le-mul below below);
+      high = λ (k : ℕ) h. lt-of-not-le (λ (le : x / 22 + 1 ≤ k).
+          let above : x + 1 ≤ 22 * k = omega arith in
+          omega (arith, mul-le-mul above above));
+    }
+
+-- an answer is its two numbers
+pub same-answer : {r r' : Sharpness} → r .number ≡ r' .number → r .length .0 ≡ r' .length .0 → r ≡ r'
+same-answer {r} {r'} number length = ap (λ (n : ℕ). answer n (r .length .0)) number ∙ ap (answer (r' .number)) length
+
+-- any two outcomes that the promise permits are equal
+pub one-answer : (s : Sixteenths) (p : Picometres) (r r' : Sharpness) → LengthIs s p r → LengthIs s p r' → r ≡ r'
+one-answer s p r r' = together
+    (λ refused refused'. refused ∙ sym refused')
+    (λ (g : Done s p r) (h : Done s p r'). same-answer (g .number ∙ sym (h .number)) (one-greatest (g .length) (h .length)))

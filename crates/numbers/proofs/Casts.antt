@@ -1,0 +1,59 @@
+-- A signed number that is tested against 0 and cast to an unsigned one. The machine reads the number back from its bits, `toZ w (ofZ w z)`, which is z where z fits.
+-- Assumes nothing.
+use mathlib.Core.Path.{_≡_, refl, ap, _∙_}
+use mathlib.Core.Bool.{true, false, true≢false}
+use Prim.Native.Nat.{ℕ, _+_, _<_, _≤_, _^_}
+use native.Mathlib.Omega.{arith}
+use lib.IntN.{ℤ, pos, negsuc, natAbs, subℕ, _+ℤ_, _-ℤ_}
+use lib.Dec.{T}
+use lib.Signed.{ltZ, nonNeg}
+use borrow.Author.Tests.{ltb-true}
+use mir.Syntax.{Width, w64}
+use mir.Val.{hbits, SFits, Fits, toZ, ofZ}
+use mir.ValLaws.{toZ-ofZ, toZ-pos}
+use mathlib.Core.Logic.{⊎-elim}
+use Rattle.numbers.proofs.Order.{le-or-lt}
+use Rattle.numbers.proofs.Differences.{sub-pos, sub-neg, same-diff, pos-diff, add-diff, neg-pos}
+use Rattle.numbers.specs.Signed.{natOf}
+
+negative : (z : ℤ) → ltZ z (pos 0) ≡ true → 0 ≡ natOf z
+negative (pos n) h = let b : n < 0 = ltb-true n 0 h in omega arith
+negative (negsuc n) h = refl
+
+not-negative : (z : ℤ) → SFits w64 z → ltZ z (pos 0) ≡ false → T (nonNeg z) × Fits w64 (natAbs z)
+not-negative (pos n) f h = (tt, record { fits = let b = f .sfits in omega arith })
+not-negative (negsuc n) f h = absurd (true≢false h)
+
+same : (z : ℤ) → T (nonNeg z) → natAbs z ≡ natOf z
+same (pos n) h = refl
+same (negsuc n) h = absurd h
+
+-- the same, of the number read back from its bits
+module _ (z : ℤ) (f : SFits w64 z) where
+  pub cast-neg : ltZ (toZ w64 (ofZ w64 z)) (pos 0) ≡ true → 0 ≡ natOf z
+  cast-neg h = negative z (rw (toZ-ofZ w64 z f) at h)
+
+  pub cast-asks : ltZ (toZ w64 (ofZ w64 z)) (pos 0) ≡ false → T (nonNeg (toZ w64 (ofZ w64 z))) × Fits w64 (natAbs (toZ w64 (ofZ w64 z)))
+  cast-asks h = rw (toZ-ofZ w64 z f) (not-negative z f (rw (toZ-ofZ w64 z f) at h))
+
+  pub cast-gives : ltZ (toZ w64 (ofZ w64 z)) (pos 0) ≡ false → natAbs (toZ w64 (ofZ w64 z)) ≡ natOf z
+  cast-gives h = rw (toZ-ofZ w64 z f) (same z (not-negative z f (rw (toZ-ofZ w64 z f) at h) .0))
+
+-- a difference of two numbers of a signed width w, as the machine makes it
+module _ (w : Width) (p n : ℕ) (hp : p < 2 ^ hbits w) (hn : n < 2 ^ hbits w) where
+  made : toZ w p -ℤ toZ w n ≡ subℕ p n
+  made =
+      rw (toZ-pos w p hp, toZ-pos w n hn)
+      (ap (λ (z : ℤ). pos p +ℤ z) (neg-pos n) ∙ ap (λ (z : ℤ). z +ℤ subℕ 0 n) (pos-diff p) ∙ add-diff p 0 0 n ∙ same-diff (p + 0) (0 + n) p n (omega arith))
+
+  small : SFits w (subℕ p n)
+  small = ⊎-elim
+      (λ (h : n ≤ p). rw (sub-pos p n h) (record { sfits = omega arith }))
+      (λ (h : p < n). rw (sub-neg p n h) (record { sfits = omega arith }))
+      (le-or-lt n p)
+
+  pub diff-fits : SFits w (toZ w p -ℤ toZ w n)
+  diff-fits = rw made small
+
+  pub diff-gives : toZ w (ofZ w (toZ w p -ℤ toZ w n)) ≡ subℕ p n
+  diff-gives = toZ-ofZ w (toZ w p -ℤ toZ w n) diff-fits ∙ made

@@ -1,0 +1,39 @@
+-- Laws of the greatest of a kind: there is one at most, and halving an interval finds it. Assumes nothing.
+use mathlib.Core.Path.{_≡_}
+use Prim.Native.Nat.{ℕ, _+_, _<_, _≤_}
+use native.Mathlib.Nat.{le-antisymm, lt-of-not-le}
+use native.Mathlib.Omega.{arith}
+use Rattle.numbers.specs.Greatest.{Greatest, Between, Falling}
+
+-- any two greatest numbers are equal
+pub one-greatest : {P : ℕ → Type 0} {a b : ℕ} → Greatest P a → Greatest P b → a ≡ b
+one-greatest g h = le-antisymm (h .most _ (g .holds)) (g .most _ (h .holds))
+
+-- the same property in other words has the same greatest number
+pub reworded : {P Q : ℕ → Type 0} {q : ℕ} → ((k : ℕ) → P k → Q k) → ((k : ℕ) → Q k → P k) → Greatest P q → Greatest Q q
+reworded to of g = record { holds = to _ (g .holds); most = λ (k : ℕ) h. g .most k (of k h) }
+
+-- a number that has the property, where the next one does not, is the greatest
+pub by-neighbours : {P : ℕ → Type 0} {k : ℕ} → Falling P → P k → ¬ P (k + 1) → Greatest P k
+by-neighbours {P} {k} falling at past =
+    record {
+      holds = at;
+      most = λ (j : ℕ) (h : P j). let b : j < k + 1 = lt-of-not-le (λ (le : k + 1 ≤ j). past (falling _ _ le h)) in omega arith;
+    }
+
+-- The law of halving. An interval has numbers in it; its middle becomes its lower end where it has the property, and its
+-- upper end where it does not; and an interval of width 1 is the answer.
+module _ {P : ℕ → Type 0} {lo hi : ℕ} (in-it : Between P lo hi) where
+  pub not-empty : lo < hi
+  not-empty = in-it .high lo (in-it .low)
+
+  pub upper-half : {mid : ℕ} → P mid → Between P mid hi
+  upper-half at = record { low = at; high = in-it .high }
+
+  pub lower-half : {mid : ℕ} → Falling P → ¬ P mid → Between P lo mid
+  lower-half falling past =
+      record { low = in-it .low; high = λ (k : ℕ) (h : P k). lt-of-not-le (λ le. past (falling _ _ le h)) }
+
+  pub narrowed : hi ≤ lo + 1 → Greatest P lo
+  narrowed width =
+      record { holds = in-it .low; most = λ (k : ℕ) (h : P k). let b : k < hi = in-it .high k h in omega arith }

@@ -1,0 +1,17 @@
+-- Laws of the chain of refusals. Assumes nothing.
+use mathlib.Core.Logic.{inl, inr}
+use Rattle.numbers.specs.Refusals.{Unless}
+
+-- a call that stops here, and one that goes on
+pub stops : {P A B : Type 0} → ¬ P → A → Unless P A B
+stops out a = inl (out, a)
+
+pub goes-on : {P A B : Type 0} → P → B → Unless P A B
+goes-on ok b = inr (ok, b)
+
+-- two outcomes of one chain stop at the same place: what holds of two that stopped, and of two that went on, holds of both
+pub together : {P A B A' B' R : Type 0} → (A → A' → R) → (B → B' → R) → Unless P A B → Unless P A' B' → R
+together f g (inl a) (inl b) = f (a .1) (b .1)
+together f g (inl a) (inr b) = absurd (a .0 (b .0))
+together f g (inr a) (inl b) = absurd (b .0 (a .0))
+together f g (inr a) (inr b) = g (a .1) (b .1)

@@ -1,0 +1,16 @@
+-- The greatest of a kind ("the greatest whole q with .."), and the interval that halving narrows.
+use Prim.Native.Nat.{ℕ, _<_, _≤_}
+
+-- q has the property, and no number that has it is greater
+pub record Greatest (P : ℕ → Type 0) (q : ℕ) : Type 0 where
+  pub holds : P q
+  pub most : (k : ℕ) → P k → k ≤ q
+
+-- lo has the property, and every number that has it is below hi
+pub record Between (P : ℕ → Type 0) (lo hi : ℕ) : Type 0 where
+  pub low : P lo
+  pub high : (k : ℕ) → P k → k < hi
+
+-- what a number has, each smaller one has too
+abbrev pub Falling : (ℕ → Type 0) → Type 0
+Falling P = (j k : ℕ) → j ≤ k → P k → P j

@@ -1,0 +1,59 @@
+// Document 01, "Numbers that come back": each number once, with the table's own words. (A call
+// that does not exist yet has its number here all the same: the table does not move.)
+
+// "done"
+pub const DONE: u8 = 0;
+
+// "w or h outside 1..1,024"
+pub const SIDE_OUT_OF_RANGE: u8 = 1;
+
+// "levels lent ≠ w·h"
+pub const WRONG_LEVELS: u8 = 2;
+
+// "output shorter than w·h"
+pub const SHORT_OUTPUT: u8 = 3;
+
+// "work buffer shorter than w·h"
+pub const SHORT_WORK: u8 = 4;
+
+// "measuring, a side no multiple of 4"
+pub const SIDE_NOT_BY_FOUR: u8 = 5;
+
+// "M out of range"
+pub const BRIGHT_OUT_OF_RANGE: u8 = 6;
+
+// "m out of range"
+pub const DARK_OUT_OF_RANGE: u8 = 7;
+
+// "D = 0"
+pub const NO_NOISE: u8 = 8;
+
+// "q < 1,000"
+pub const LOW_RATIO: u8 = 9;
+
+// "histogram not 256 long"
+pub const WRONG_HISTOGRAM: u8 = 10;
+
+// "threshold asked of an empty histogram"
+pub const EMPTY_HISTOGRAM: u8 = 11;
+
+// "threshold asked of a total above 1,048,576"
+pub const LARGE_TOTAL: u8 = 12;
+
+// "sample place outside its bounds"
+pub const PLACE_OUTSIDE: u8 = 13;
+
+// "s or p out of range"
+pub const LENGTH_OUT_OF_RANGE: u8 = 14;
+
+// "judge's input, or the values to be counted, out of range"
+pub const INPUT_OUT_OF_RANGE: u8 = 15;
+
+// "unknown record kind"
+pub const UNKNOWN_KIND: u8 = 16;
+
+// "record body cut short"
+pub const SHORT_BODY: u8 = 17;
+
+// "program input above 32,768 bytes"
+pub const LONG_INPUT: u8 = 18;

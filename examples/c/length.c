@@ -1,0 +1,27 @@
+/* The length of a sharpness, called from C. From the top of the repository:
+ *
+ *     rt staticlib gong
+ *     cc -Iinclude examples/c/length.c target/staticlib/libgong.a -o length
+ *     ./length
+ */
+#include <inttypes.h>
+#include <stdio.h>
+
+#include "gong.h"
+
+/* The factor in sixteenths of a pixel, the pixel's size in picometres. */
+static void show(int64_t factor, uint64_t pixel)
+{
+    uint64_t length;
+    uint8_t number = gong_length(factor, pixel, &length);
+
+    printf("factor %" PRId64 ", pixel %" PRIu64 ": number %d, length %" PRIu64 "\n", factor, pixel, number, length);
+}
+
+int main(void)
+{
+    show(32, 800);       /* two pixels of 0.8 nm: 1,131 pm */
+    show(16384, 100000); /* the largest of both */
+    show(-1, 800);       /* refused: number 14, and the length is 0 */
+    return 0;
+}

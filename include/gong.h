@@ -1,0 +1,83 @@
+/* gong.h: Gongspindle for C, and for whatever else can call C.
+ *
+ * Gongspindle says, exactly and provably, whether a scanning electron microscope's picture may be
+ * measured (ISO/TS 24597:2011). Every function declared here is proved to keep its promise for
+ * every input; docs/PROMISES.md has the promises in words.
+ *
+ * BUILDING      rt staticlib gong        makes target/staticlib/libgong.a, x86-64 code
+ *               cc -Iinclude yours.c target/staticlib/libgong.a
+ *               The library needs nothing else: no start-up call, no memory of its own, no locale.
+ *
+ * NUMBERS       Every function returns a number of the table below, 0 for done. Where several
+ *               numbers apply the lowest comes back, unless a function says otherwise.
+ *
+ * ANSWERS       What else comes back is written through a pointer, always: where the call was
+ *               refused, a 0 is written. So an answer never holds what stood there before.
+ *
+ * OWNERSHIP     Everything is lent for the length of the call and no longer. The library keeps no
+ *               pointer, allocates nothing and holds no state, so any number of threads may call it
+ *               at the same time on memory of their own. A slice is a pointer and then its length
+ *               in elements, not bytes; a null pointer with length 0 is an empty slice. What one
+ *               call may write must not overlap anything else that is lent to that call. A pointer
+ *               for an answer is never null.
+ *
+ * UNITS         The unit stands at each parameter. Sixteenths of a pixel, picometres and eighths of
+ *               a level are kept apart inside the library; C cannot, so mind which you pass.
+ *
+ * EXAMPLE
+ *               uint64_t length;
+ *               uint8_t number = gong_length(32, 800, &length);
+ *               if (number == GONG_DONE)
+ *                   printf("%" PRIu64 " pm\n", length);          // 1131 pm
+ *               else
+ *                   fprintf(stderr, "refused: %d\n", number);    // 14; length is 0
+ *
+ * examples/c/length.c is a whole program.
+ */
+#ifndef GONG_H
+#define GONG_H
+
+#include <stddef.h>
+#include <stdint.h>
+
+#ifdef __cplusplus
+extern "C" {
+#endif
+
+/* The numbers that come back: when each is given, exactly, and what the call leaves in lent
+ * buffers. The numbers of calls that are still to come are here too, for the table does not move. */
+enum gong_number {
+    GONG_DONE = 0,                 /* done; buffers as the call says                                     */
+    GONG_SIDE_OUT_OF_RANGE = 1,    /* width or height outside 1..1,024; nothing written                  */
+    GONG_WRONG_LEVELS = 2,         /* levels lent are not width times height; nothing written            */
+    GONG_SHORT_OUTPUT = 3,         /* output shorter than width times height; nothing written            */
+    GONG_SHORT_WORK = 4,           /* work buffer shorter than width times height; nothing written       */
+    GONG_SIDE_NOT_BY_FOUR = 5,     /* measuring, a side no multiple of 4; nothing written                */
+    GONG_BRIGHT_OUT_OF_RANGE = 6,  /* M outside 21,760..31,360; buffers filtered                         */
+    GONG_DARK_OUT_OF_RANGE = 7,    /* m outside 1,280..10,240; buffers filtered                          */
+    GONG_NO_NOISE = 8,             /* D is 0; buffers filtered                                           */
+    GONG_LOW_RATIO = 9,            /* ratio below 1,000 hundredths (it is given back); buffers filtered  */
+    GONG_WRONG_HISTOGRAM = 10,     /* histogram not 256 long; nothing written                            */
+    GONG_EMPTY_HISTOGRAM = 11,     /* threshold asked of an empty histogram; nothing written             */
+    GONG_LARGE_TOTAL = 12,         /* threshold asked of a total above 1,048,576; nothing written        */
+    GONG_PLACE_OUTSIDE = 13,       /* sample place outside its bounds; nothing written                   */
+    GONG_LENGTH_OUT_OF_RANGE = 14, /* factor or pixel size out of range; nothing written                 */
+    GONG_INPUT_OUT_OF_RANGE = 15,  /* judge's input, or values to be counted, out of range; nothing written */
+    GONG_UNKNOWN_KIND = 16,        /* the program only: unknown record kind                              */
+    GONG_SHORT_BODY = 17,          /* the program only: record body cut short                            */
+    GONG_LONG_INPUT = 18           /* the program only: input above 32,768 bytes                         */
+};
+
+/* The length of a sharpness.
+ *   factor   the sharpness factor, in sixteenths of a pixel: 1 to 16,384
+ *   pixel    the size of a pixel, in picometres: 1 to 100,000
+ *   length   receives the length in picometres: the factor over the square root of 2, rounded down,
+ *            that is the greatest whole q with 512 q^2 <= (pixel factor)^2
+ * Returns 0; or 14, and a length of 0, where factor or pixel is out of range. */
+uint8_t gong_length(int64_t factor, uint64_t pixel, uint64_t *length);
+
+#ifdef __cplusplus
+}
+#endif
+
+#endif
