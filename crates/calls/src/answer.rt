@@ -1,12 +1,12 @@
 // What goes to standard output, by way of a block: text is put into the block, and the block is
 // written when it is nearly full and at the end of an answer. `at` is where the text in it ends.
-ghost use mathlib.Core.Path.{_≡_};
 ghost use Prim.Native.Nat.{_+_, _≤_, _<_};
 ghost use lib.ListN.{length};
+use crate::least;
 use libc::STDOUT_FILENO;
 
 // Writes the text in the block.
-pub fn send(block: &[u8], at: usize)
+pub(crate) fn send(block: &[u8], at: usize)
     requires { ⌜ at ≤ length (now block) ⌝ }
 {
     io::write_all(STDOUT_FILENO, &block[..at]);
@@ -40,12 +40,6 @@ fn copy(text: &[u8; 20], n: usize, block: &mut [u8], at: usize)
         block[at + i] = text[i];
         i += 1;
     }
-}
-
-fn least(a: usize, b: usize) -> usize
-    ensures { λ r. ⌜ (r ≤ a) × (r ≤ b) ⌝ }
-{
-    if a < b { a } else { b }
 }
 
 // A number's digits from `at` on, of which there are at most 20; where they end.
@@ -84,7 +78,7 @@ fn end(block: &mut [u8], at: usize) -> usize
 }
 
 // A letter and numbers after it, as a line at the block's start.
-pub fn line(block: &mut [u8], letter: u8, numbers: &[u64]) -> usize
+pub(crate) fn line(block: &mut [u8], letter: u8, numbers: &[u64]) -> usize
     requires { ⌜ 32 ≤ length (now block) ⌝ }
     ensures { λ r. ⌜ r ≤ length (now (block .entry)) ⌝ }
 {
@@ -104,7 +98,7 @@ fn magnitude(v: i64) -> u64 {
 }
 
 // A letter, a number and a signed number, as a line at the block's start.
-pub fn signed_line(block: &mut [u8], letter: u8, number: u64, v: i64) -> usize
+pub(crate) fn signed_line(block: &mut [u8], letter: u8, number: u64, v: i64) -> usize
     requires { ⌜ 32 ≤ length (now block) ⌝ }
     ensures { λ r. ⌜ r ≤ length (now (block .entry)) ⌝ }
 {
@@ -134,7 +128,7 @@ fn wide_value(x: u16) -> u64 {
 }
 
 // The elements of a buffer of values, as a line.
-pub fn values(block: &mut [u8], at: usize, s: &[u16]) -> usize
+pub(crate) fn values(block: &mut [u8], at: usize, s: &[u16]) -> usize
     requires { ⌜ (32 ≤ length (now block)) × (at ≤ length (now block)) ⌝ }
     ensures { λ r. ⌜ r ≤ length (now (block .entry)) ⌝ }
 {
@@ -155,7 +149,7 @@ fn wide_count(x: u32) -> u64 {
 }
 
 // The elements of a buffer of counts, as a line.
-pub fn counts(block: &mut [u8], at: usize, s: &[u32]) -> usize
+pub(crate) fn counts(block: &mut [u8], at: usize, s: &[u32]) -> usize
     requires { ⌜ (32 ≤ length (now block)) × (at ≤ length (now block)) ⌝ }
     ensures { λ r. ⌜ r ≤ length (now (block .entry)) ⌝ }
 {
@@ -172,7 +166,7 @@ pub fn counts(block: &mut [u8], at: usize, s: &[u32]) -> usize
 }
 
 // The run's last line: some words and a number.
-pub fn last(words: &[u8], n: u64) {
+pub(crate) fn last(words: &[u8], n: u64) {
     io::write_all(STDOUT_FILENO, words);
     io::print_decimal(STDOUT_FILENO, n);
     io::write_all(STDOUT_FILENO, b"\n");

@@ -10,7 +10,7 @@ use units::Picometres;
 use units::Sixteenths;
 
 // `l`: factor, pixel.
-pub fn length(block: &mut [u8]) -> bool
+pub(crate) fn length(block: &mut [u8]) -> bool
     requires { ⌜ 32 ≤ length (now block) ⌝ }
 {
     let Signed::Of(factor) = request::signed_number() else {

@@ -6,7 +6,7 @@ mod each;
 mod request;
 
 ghost use mathlib.Core.Path.{_≡_};
-ghost use Prim.Native.Nat.{_≤_};
+ghost use Prim.Native.Nat.{_≤_, min};
 ghost use lib.ListN.{length};
 ghost use Rattle.calls.specs.Space.{Places};
 use request::Next;
@@ -79,6 +79,13 @@ fn serve(block: &mut [u8], levels: &mut [u8], one: &mut [u16], two: &mut [u16], 
         }
         answered += 1;
     }
+}
+
+// The lesser of two: what still has room, and what there is.
+fn least(a: usize, b: usize) -> usize
+    ensures { λ r. ⌜ r ≡ min a b ⌝ }
+{
+    if a < b { a } else { b }
 }
 
 // The longest slices and buffers that a request can name: one element more than any picture has, so

@@ -2,11 +2,12 @@
 // what the input is too short for is `Cut`, or not `whole`, and so is a slice or a buffer that is
 // longer than the space for it.
 ghost use mathlib.Core.Path.{_≡_};
-ghost use Prim.Native.Nat.{_+_, _*_, _≤_, min};
+ghost use Prim.Native.Nat.{_+_, _*_, _≤_};
 ghost use lib.ListN.{length};
 ghost use mir.Syntax.{w64};
 ghost use mir.Val.{toZ};
 ghost use Rattle.io.specs.Counts.{Counts};
+use crate::least;
 use libc::STDIN_FILENO;
 
 // What a request begins with: the letter of a call, or nothing at the end of the input.
@@ -50,7 +51,7 @@ fn eight(a: u32, b: u32) -> u64
     a as u64 + b as u64 * 4294967296
 }
 
-pub fn beginning() -> Next {
+pub(crate) fn beginning() -> Next {
     let mut b = [0u8; 1];
     let got = io::read_full(STDIN_FILENO, &mut b);
     if got < 1 {
@@ -60,7 +61,7 @@ pub fn beginning() -> Next {
 }
 
 // A number: 8 bytes.
-pub fn number() -> Unsigned {
+pub(crate) fn number() -> Unsigned {
     let mut b = [0u8; 8];
     let got = io::read_full(STDIN_FILENO, &mut b);
     if got < 8 {
@@ -82,7 +83,7 @@ fn complement(n: u64) -> i64
 }
 
 // A signed number: 8 bytes, in two's complement.
-pub fn signed_number() -> Signed {
+pub(crate) fn signed_number() -> Signed {
     let Unsigned::Of(n) = number() else {
         return Signed::Cut;
     };
@@ -123,7 +124,7 @@ fn exactly(space: &mut [u8], n: usize) -> bool
 }
 
 // A read-only slice of levels: a byte each.
-pub fn levels(space: &mut [u8]) -> Taken
+pub(crate) fn levels(space: &mut [u8]) -> Taken
     ensures { λ r. ⌜ Counts (r .count) (now (space .exit)) ⌝ }
 {
     let t = size(space.len());
@@ -133,12 +134,6 @@ pub fn levels(space: &mut [u8]) -> Taken
         return t;
     }
     cut()
-}
-
-fn least(a: usize, b: usize) -> usize
-    ensures { λ r. ⌜ r ≡ min a b ⌝ }
-{
-    if a < b { a } else { b }
 }
 
 // Two bytes to each of k elements from `at` on.
@@ -171,7 +166,7 @@ fn pairs(b: &mut [u8], space: &mut [u16], n: usize) -> bool
 }
 
 // A read-only slice of values: two bytes each.
-pub fn values(space: &mut [u16]) -> Taken
+pub(crate) fn values(space: &mut [u16]) -> Taken
     ensures { λ r. ⌜ Counts (r .count) (now (space .exit)) ⌝ }
 {
     let t = size(space.len());
@@ -209,7 +204,7 @@ fn fours(b: &mut [u8], space: &mut [u32], n: usize) -> bool
 }
 
 // A read-only slice of counts: four bytes each. 4,096 of them have room in the block.
-pub fn counts(space: &mut [u32]) -> Taken
+pub(crate) fn counts(space: &mut [u32]) -> Taken
     ensures { λ r. ⌜ Counts (r .count) (now (space .exit)) ⌝ }
 {
     let t = size(space.len());
@@ -233,7 +228,7 @@ fn fill_values(space: &mut [u16], n: usize, v: u16)
 }
 
 // A buffer of values: its length, and the value that fills it (its low 16 bits).
-pub fn value_buffer(space: &mut [u16]) -> Taken
+pub(crate) fn value_buffer(space: &mut [u16]) -> Taken
     ensures { λ r. ⌜ Counts (r .count) (now (space .exit)) ⌝ }
 {
     let t = size(space.len());
@@ -256,7 +251,7 @@ fn fill_counts(space: &mut [u32], n: usize, v: u32)
 }
 
 // A buffer of counts: its length, and the count that fills it (its low 32 bits).
-pub fn count_buffer(space: &mut [u32]) -> Taken
+pub(crate) fn count_buffer(space: &mut [u32]) -> Taken
     ensures { λ r. ⌜ Counts (r .count) (now (space .exit)) ⌝ }
 {
     let t = size(space.len());

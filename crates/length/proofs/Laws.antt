@@ -1,14 +1,14 @@
 -- Laws of the definition: what halving finds in ℕ is the document's length, and the answer is determined. Assumes nothing.
-use mathlib.Core.Path.{_≡_, refl, sym, ap, _∙_}
+use mathlib.Core.Path.{_≡_, sym, ap, _∙_}
 use Prim.Native.Nat.{ℕ, _+_, _*_, _/_, _≤_}
 use native.Mathlib.Nat.{mul-le-mul, mul-le-mul-left, le-trans, lt-of-not-le}
 use native.Mathlib.Omega.{arith}
-use lib.IntN.{ℤ, pos}
-use Rattle.numbers.specs.Greatest.{Greatest, Between, Falling}
+use lib.IntN.{pos}
+use Rattle.numbers.specs.Greatest.{Greatest, Between}
 use Rattle.numbers.specs.Signed.{natOf}
 use Rattle.numbers.proofs.Order.{to-ℤ, of-ℤ, positive}
 use Rattle.numbers.proofs.Refusals.{goes-on, together}
-use Rattle.numbers.proofs.Greatest.{one-greatest, reworded}
+use Rattle.numbers.proofs.Greatest.{Falling, one-greatest, next-has-not, reworded}
 use Rattle.units.specs.declared.Sixteenths.{Sixteenths}
 use Rattle.units.specs.declared.Picometres.{Picometres}
 use Rattle.length.specs.declared.Sharpness.{Sharpness}
@@ -67,6 +67,10 @@ start x =
 -- an answer is its two numbers
 pub same-answer : {r r' : Sharpness} → r .number ≡ r' .number → r .length .0 ≡ r' .length .0 → r ≡ r'
 same-answer {r} {r'} number length = ap (λ (n : ℕ). answer n (r .length .0)) number ∙ ap (answer (r' .number)) length
+
+-- the length is rounded down: q picometres are at most the sharpness, and q + 1 are not
+pub rounded-down : (s : Sixteenths) (p : Picometres) (r : Sharpness) → Done s p r → AtMost s p (r .length .0) × (¬ AtMost s p (r .length .0 + 1))
+rounded-down s p r done = (done .length .holds, next-has-not (done .length))
 
 -- any two outcomes that the promise permits are equal
 pub one-answer : (s : Sixteenths) (p : Picometres) (r r' : Sharpness) → LengthIs s p r → LengthIs s p r' → r ≡ r'

@@ -3,17 +3,25 @@ use mathlib.Core.Path.{_≡_}
 use Prim.Native.Nat.{ℕ, _+_, _<_, _≤_}
 use native.Mathlib.Nat.{le-antisymm, lt-of-not-le}
 use native.Mathlib.Omega.{arith}
-use Rattle.numbers.specs.Greatest.{Greatest, Between, Falling}
+use Rattle.numbers.specs.Greatest.{Greatest, Between}
 
 -- any two greatest numbers are equal
 pub one-greatest : {P : ℕ → Type 0} {a b : ℕ} → Greatest P a → Greatest P b → a ≡ b
 one-greatest g h = le-antisymm (h .most _ (g .holds)) (g .most _ (h .holds))
 
+-- the next number after the greatest does not have the property
+pub next-has-not : {P : ℕ → Type 0} {q : ℕ} → Greatest P q → ¬ P (q + 1)
+next-has-not {P} {q} g h = let b : q + 1 ≤ q = g .most (q + 1) h in omega arith
+
 -- the same property in other words has the same greatest number
 pub reworded : {P Q : ℕ → Type 0} {q : ℕ} → ((k : ℕ) → P k → Q k) → ((k : ℕ) → Q k → P k) → Greatest P q → Greatest Q q
 reworded to of g = record { holds = to _ (g .holds); most = λ (k : ℕ) h. g .most k (of k h) }
 
--- a number that has the property, where the next one does not, is the greatest
+-- what a number has, each smaller one has too
+abbrev pub Falling : (ℕ → Type 0) → Type 0
+Falling P = (j k : ℕ) → j ≤ k → P k → P j
+
+-- where that is so, a number that has the property while the next one does not is the greatest
 pub by-neighbours : {P : ℕ → Type 0} {k : ℕ} → Falling P → P k → ¬ P (k + 1) → Greatest P k
 by-neighbours {P} {k} falling at past =
     record {

@@ -10,7 +10,3 @@ pub record Greatest (P : ℕ → Type 0) (q : ℕ) : Type 0 where
 pub record Between (P : ℕ → Type 0) (lo hi : ℕ) : Type 0 where
   pub low : P lo
   pub high : (k : ℕ) → P k → k < hi
-
--- what a number has, each smaller one has too
-abbrev pub Falling : (ℕ → Type 0) → Type 0
-Falling P = (j k : ℕ) → j ≤ k → P k → P j

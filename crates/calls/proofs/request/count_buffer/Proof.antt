@@ -1,5 +1,4 @@
 -- `calls::request::count_buffer` meets its contract. Assumes nothing.
-use Prim.Native.Nat.{_-_}
 use borrow.Author.Needs.{needs}
 use Rattle.calls.proofs.Laws.{still}
 use Rattle.calls.proofs.request.count_buffer.Statement.{statement}
@@ -33,7 +32,9 @@ same-length : tie.Need-same-length
 same-length c = search needs
 
 returns-2 : tie.Need-returns-2
-returns-2 c = still _ (c .before .before .before .before .before .before .before .before .before .before .args .space .now) _ (c .before .before .before .before .before .before .before .before .size .ensures) (c .before .before .fill-counts .kept .0)
+returns-2 c =
+    let sized = c .before .before .before .before .before .before .before .before in
+    still _ (sized .before .before .args .space .now) _ (sized .size .ensures) (c .before .before .fill-counts .kept .0)
 
 pub count-buffer-spec : {M : Type 1} → statement M
 count-buffer-spec =

@@ -1,5 +1,4 @@
 -- `calls::request::counts` meets its contract. Assumes nothing.
-use Prim.Native.Nat.{_-_}
 use borrow.Author.Needs.{needs}
 use Rattle.calls.proofs.Laws.{still}
 use Rattle.calls.proofs.request.counts.Statement.{statement}
@@ -21,7 +20,9 @@ same-length : tie.Need-same-length
 same-length c = search needs
 
 returns : tie.Need-returns
-returns c = still _ (c .before .before .before .before .before .before .before .before .before .before .args .space .now) _ (c .before .before .before .before .before .before .before .before .size .ensures) (c .before .before .before .before .fours .kept .1 .0)
+returns c =
+    let sized = c .before .before .before .before .before .before .before .before in
+    still _ (sized .before .before .args .space .now) _ (sized .size .ensures) (c .before .before .before .before .fours .kept .1 .0)
 
 cut-requires : tie.Need-cut-requires
 cut-requires c κs = search needs
