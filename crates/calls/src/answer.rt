@@ -1,7 +1,11 @@
 // What goes to standard output, by way of a block: text is put into the block, and the block is
 // written when it is nearly full and at the end of an answer. `at` is where the text in it ends.
 ghost use Prim.Native.Nat.{_+_, _≤_, _<_};
+ghost use lib.IntN.{pos, natAbs};
 ghost use lib.ListN.{length};
+ghost use lib.Signed.{ltZ};
+ghost use mathlib.Core.Bool.{true};
+ghost use mathlib.Core.Path.{_≡_};
 use crate::least;
 use libc::STDOUT_FILENO;
 
@@ -93,7 +97,9 @@ pub(crate) fn line(block: &mut [u8], letter: u8, numbers: &[u64]) -> usize
 }
 
 // How far below 0 a negative number is.
-fn magnitude(v: i64) -> u64 {
+fn magnitude(v: i64) -> u64
+    ensures { λ r. ⌜ (ltZ v (pos 0) ≡ true → r ≡ natAbs v) ⌝ }
+{
     std::num::wrapping_add_u64(numbers::natural(!v), 1)
 }
 
