@@ -9,7 +9,7 @@ use Rattle.numbers.proofs.Greatest.{by-neighbours}
 use Rattle.units.specs.Units.{sixteenths, picometres}
 use Rattle.length.specs.declared.Sharpness.{Sharpness}
 use Rattle.length.specs.Length.{answer, LengthIs}
-use Rattle.length.proofs.Laws.{falling, is-the-length, one-answer}
+use Rattle.length.proofs.Laws.{falling, Ranged, is-the-length, one-answer}
 
 -- f and p are in range, 512·q² is at most (p·f)², and 512·(q+1)² is more: six tests that antt computes
 abbrev pub Tests : ℕ → ℕ → ℕ → Type 0
@@ -18,17 +18,19 @@ Tests f p q =
 
 -- then number 0 and the length q are permitted, and nothing else is
 module _ (f p q : ℕ) (t : Tests f p q) where
-  worked : LengthIs (sixteenths (pos f)) (picometres p) (answer 0 q)
-  worked =
-      is-the-length (sixteenths (pos f)) (picometres p) (answer 0 q)
-      (record {
+  ranged : Ranged f p
+  ranged =
+      record {
         low = leb→le 1 f (t .0);
         high = leb→le f 16384 (t .1);
         small = leb→le 1 p (t .2);
         large = leb→le p 100000 (t .3);
-        length = by-neighbours (falling (p * f * (p * f))) (leb→le _ _ (t .4)) (not-le-of-lt (ltb→lt _ _ (t .5)));
-      })
-      refl
+      }
+
+  worked : LengthIs (sixteenths (pos f)) (picometres p) (answer 0 q)
+  worked =
+      is-the-length (sixteenths (pos f)) (picometres p) ranged (answer 0 q) refl
+      (by-neighbours (falling (p * f * (p * f))) (leb→le _ _ (t .4)) (not-le-of-lt (ltb→lt _ _ (t .5))))
 
   pub only : (r : Sharpness) → LengthIs (sixteenths (pos f)) (picometres p) r → r ≡ answer 0 q
   only r is = one-answer (sixteenths (pos f)) (picometres p) r (answer 0 q) is worked

@@ -6,7 +6,7 @@ use native.Mathlib.Omega.{arith}
 use lib.IntN.{pos}
 use Rattle.numbers.specs.Greatest.{Greatest, Between}
 use Rattle.numbers.specs.Signed.{natOf}
-use Rattle.numbers.proofs.Order.{to-ℤ, of-ℤ, positive}
+use Rattle.numbers.proofs.Order.{to-ℤ, of-ℤ, low-natural, high-natural, positive}
 use Rattle.numbers.proofs.Refusals.{goes-on, together}
 use Rattle.numbers.proofs.Greatest.{Falling, one-greatest, next-has-not, reworded}
 use Rattle.units.specs.declared.Sixteenths.{Sixteenths}
@@ -18,37 +18,46 @@ use Rattle.length.specs.Length.{InRange, AtMost, Done, answer, LengthIs}
 pub falling : (t : ℕ) → Falling (λ q. 512 * (q * q) ≤ t)
 falling t j k le h = le-trans (mul-le-mul-left 512 (mul-le-mul le le)) h
 
--- f sixteenths and p picometres are in range, and q is their length, all in natural numbers
-pub record Found (f p q : ℕ) : Type 0 where
+-- the ranges, of natural numbers
+pub record Ranged (f p : ℕ) : Type 0 where
   pub low : 1 ≤ f
   pub high : f ≤ 16384
   pub small : 1 ≤ p
   pub large : p ≤ 100000
-  pub length : Greatest (λ q. 512 * (q * q) ≤ p * f * (p * f)) q
 
--- it is the document's length
-module _ (s : Sixteenths) (p : Picometres) (r : Sharpness) (found : Found (natOf (s .0)) (p .0) (r .length .0)) where
+-- what is in range is so as a natural number
+pub to-natural : (s : Sixteenths) (p : Picometres) → InRange s p → Ranged (natOf (s .0)) (p .0)
+to-natural s p ok =
+    record {
+      low = low-natural (s .0) (ok .factor-low);
+      high = high-natural (s .0) (ok .factor-high);
+      small = ok .pixel-low;
+      large = ok .pixel-high;
+    }
+
+-- and the other way round; then what halving finds is the document's length
+module _ (s : Sixteenths) (p : Picometres) (ok : Ranged (natOf (s .0)) (p .0)) where
   whole : s .0 ≡ pos (natOf (s .0))
-  whole = positive (s .0) (found .low)
+  whole = positive (s .0) (ok .low)
 
   in-range : InRange s p
   in-range =
       record {
-        factor-low = rw whole (to-ℤ (found .low));
-        factor-high = rw whole (to-ℤ (found .high));
-        pixel-low = found .small;
-        pixel-high = found .large;
+        factor-low = rw whole (to-ℤ (ok .low));
+        factor-high = rw whole (to-ℤ (ok .high));
+        pixel-low = ok .small;
+        pixel-high = ok .large;
       }
 
-  greatest : Greatest (AtMost s p) (r .length .0)
-  greatest = rw whole (reworded (λ (k : ℕ) h. to-ℤ h) (λ (k : ℕ) h. of-ℤ h) (found .length))
+  greatest : {q : ℕ} → Greatest (λ k. 512 * (k * k) ≤ p .0 * natOf (s .0) * (p .0 * natOf (s .0))) q → Greatest (AtMost s p) q
+  greatest g = rw whole (reworded (λ (k : ℕ) h. to-ℤ h) (λ (k : ℕ) h. of-ℤ h) g)
 
-  pub is-the-length : r .number ≡ 0 → LengthIs s p r
-  is-the-length done = goes-on in-range (record { number = done; length = greatest })
+  pub is-the-length : (r : Sharpness) → r .number ≡ 0 → Greatest (λ k. 512 * (k * k) ≤ p .0 * natOf (s .0) * (p .0 * natOf (s .0))) (r .length .0) → LengthIs s p r
+  is-the-length r done g = goes-on in-range (record { number = done; length = greatest g })
 
 -- the product and its square have room in 64 bits
-pub product : {f p : ℕ} → f ≤ 16384 → p ≤ 100000 → p * f ≤ 1638400000
-product f p = mul-le-mul p f
+pub product : {f p : ℕ} → Ranged f p → p * f ≤ 1638400000
+product ok = mul-le-mul (ok .large) (ok .high)
 
 pub squared : {t : ℕ} → t ≤ 1638400000 → t * t ≤ 1638400000 * 1638400000
 squared h = mul-le-mul h h

@@ -1,16 +1,14 @@
 -- `length::length` meets its contract: each test is one end of a range, and past them halving finds the length.
 -- Assumes nothing.
 use mathlib.Core.Path.{_≡_, refl, ap, _∙_}
-use Prim.Native.Nat.{_≤_}
 use native.Mathlib.Omega.{arith}
 use mir.Syntax.{w64}
 use mir.ValLaws.{toZ-ofZ}
 use borrow.Author.Needs.{needs}
 use Rattle.numbers.specs.Signed.{natOf}
-use Rattle.numbers.proofs.Order.{low-natural, high-natural}
 use Rattle.numbers.proofs.Refusals.{stops}
 use Rattle.length.specs.Length.{InRange}
-use Rattle.length.proofs.Laws.{product, squared, start, is-the-length}
+use Rattle.length.proofs.Laws.{Ranged, to-natural, product, squared, start, is-the-length}
 use Rattle.length.proofs.length.Statement.{statement}
 use Rattle.length.proofs.length.Tie as tie
 
@@ -21,15 +19,8 @@ factor c =
     c .before .natural .ensures ∙ ap natOf (toZ-ofZ w64 (a .result) (record { sfits = a .ok }) ∙ a .ensures)
 
 -- where the two are in range, none of the four tests stops the call
-passes : (c : tie.After-amount2) → InRange (c .before .before .before .args .factor) (c .before .before .before .args .pixel) →
-    (1 ≤ c .before .natural .result) × (c .before .natural .result ≤ 16384) × (1 ≤ c .amount2 .result) × (c .amount2 .result ≤ 100000)
-passes c ok =
-    let z = c .before .before .before .args .factor .0 in (
-      omega (arith, factor c, low-natural z (ok .factor-low)),
-      omega (arith, factor c, high-natural z (ok .factor-high)),
-      omega (arith, c .amount2 .ensures, ok .pixel-low),
-      omega (arith, c .amount2 .ensures, ok .pixel-high),
-    )
+passes : (c : tie.After-amount2) → InRange (c .before .before .before .args .factor) (c .before .before .before .args .pixel) → Ranged (c .before .natural .result) (c .amount2 .result)
+passes c ok = rw (factor c, c .amount2 .ensures) (to-natural _ _ ok)
 
 amount-requires : tie.Need-amount-requires
 amount-requires c κs = search needs
@@ -64,20 +55,21 @@ refuse-requires-4 c κs = search needs
 returns-4 : tie.Need-returns-4
 returns-4 c = stops (λ ok. omega (arith, passes (c .before .before .before .before .before) ok)) (c .refuse4 .ensures)
 
-natural-high : (c : tie.Else4) → c .before .before .before .before .before .natural .result ≤ 16384
-natural-high c = c .before .before .if2 .left
+-- past the four tests both are in range
+ranged : (c : tie.Else4) → Ranged (c .before .before .before .before .before .natural .result) (c .before .before .before .before .amount2 .result)
+ranged c = record { low = omega arith; high = omega arith; small = omega arith; large = omega arith }
 
 mul-product : tie.Need-mul-product
-mul-product c = omega (arith, product (natural-high c) (c .if4 .left))
+mul-product c = omega (arith, product (ranged c))
 
 mul-halve : tie.Need-mul-halve
-mul-halve c = omega (arith, squared (product (natural-high c) (c .if4 .left)))
+mul-halve c = omega (arith, squared (product (ranged c)))
 
 add-halve : tie.Need-add-halve
-add-halve c = omega (arith, product (natural-high c) (c .if4 .left))
+add-halve c = omega (arith, product (ranged c))
 
 halve-requires : tie.Need-halve-requires
-halve-requires c κs = (start _, omega (arith, product (natural-high c) (c .if4 .left)))
+halve-requires c κs = (start _, omega (arith, product (ranged c)))
 
 of-requires : tie.Need-of-requires
 of-requires c κs = search needs
@@ -87,10 +79,11 @@ returns-5 c =
     let e = c .before .before in
     let told = e .before .before .before .before in
     let a = told .before .before .before .args in
-    is-the-length (a .factor) (a .pixel) (record { number = 0; length = c .of .result })
-    (rw (← factor told, ← told .amount2 .ensures, c .of .ensures)
-    (record { low = omega arith; high = natural-high e; small = omega arith; large = e .if4 .left; length = c .before .halve .ensures }))
+    is-the-length (a .factor) (a .pixel)
+    (rw (← factor told, ← told .amount2 .ensures) (ranged e))
+    (record { number = 0; length = c .of .result })
     refl
+    (rw (← factor told, ← told .amount2 .ensures, c .of .ensures) (c .before .halve .ensures))
 
 pub length-spec : {M : Type 1} → statement M
 length-spec =
