@@ -16,6 +16,7 @@ pub enum Next {
     Nothing,
 }
 
+// A number of 8 bytes, if the input had so many.
 pub enum Unsigned {
     Of(u64),
     Cut,
@@ -51,6 +52,7 @@ fn eight(a: u32, b: u32) -> u64
     a as u64 + b as u64 * 4294967296
 }
 
+// The beginning of the next request.
 pub(crate) fn beginning() -> Next {
     let mut b = [0u8; 1];
     let got = io::read_full(STDIN_FILENO, &mut b);
@@ -232,6 +234,9 @@ pub(crate) fn value_buffer(space: &mut [u16]) -> Taken
     ensures { λ r. ⌜ Counts (r .count) (now (space .exit)) ⌝ }
 {
     let t = size(space.len());
+    if !t.whole {
+        return cut();
+    }
     let Unsigned::Of(v) = number() else {
         return cut();
     };
@@ -255,6 +260,9 @@ pub(crate) fn count_buffer(space: &mut [u32]) -> Taken
     ensures { λ r. ⌜ Counts (r .count) (now (space .exit)) ⌝ }
 {
     let t = size(space.len());
+    if !t.whole {
+        return cut();
+    }
     let Unsigned::Of(v) = number() else {
         return cut();
     };

@@ -7,6 +7,12 @@ use Rattle.calls.proofs.request.count_buffer.Tie as tie
 size-requires : tie.Need-size-requires
 size-requires c κs = search needs
 
+cut-requires : tie.Need-cut-requires
+cut-requires c κs = search needs
+
+returns : tie.Need-returns
+returns c = search needs
+
 number-requires : tie.Need-number-requires
 number-requires c κs = search needs
 
@@ -16,11 +22,11 @@ enum-known-v c = search needs
 enum-told : tie.Need-enum-told
 enum-told c = search needs
 
-cut-requires : tie.Need-cut-requires
-cut-requires c κs = search needs
+cut-requires-2 : tie.Need-cut-requires-2
+cut-requires-2 c κs = search needs
 
-returns : tie.Need-returns
-returns c = search needs
+returns-2 : tie.Need-returns-2
+returns-2 c = search needs
 
 cast-fill-counts : tie.Need-cast-fill-counts
 cast-fill-counts c = search needs
@@ -31,9 +37,9 @@ fill-counts-requires c κs = search needs
 same-length : tie.Need-same-length
 same-length c = search needs
 
-returns-2 : tie.Need-returns-2
-returns-2 c =
-    let sized = c .before .before .before .before .before .before .before .before in
+returns-3 : tie.Need-returns-3
+returns-3 c =
+    let sized = c .before .before .before .before .before .before .before .before .before .before in
     still _ (sized .before .before .args .space .now) _ (sized .size .ensures) (c .before .before .fill-counts .kept .0)
 
 pub count-buffer-spec : {M : Type 1} → statement M
@@ -41,12 +47,14 @@ count-buffer-spec =
     tie.close
     (tie.spec
     size-requires
+    cut-requires
+    returns
     number-requires
     enum-known-v
     enum-told
-    cut-requires
-    returns
+    cut-requires-2
+    returns-2
     cast-fill-counts
     fill-counts-requires
     same-length
-    returns-2)
+    returns-3)
