@@ -7,6 +7,8 @@ ghost use lib.ListN.{length};
 ghost use mir.Syntax.{w64};
 ghost use mir.Val.{toZ};
 ghost use Rattle.io.specs.Counts.{Counts};
+ghost use Rattle.numbers.specs.Refusals.{Unless};
+ghost use Rattle.calls.specs.Space.{All, None};
 use crate::least;
 use libc::STDIN_FILENO;
 
@@ -93,11 +95,24 @@ pub(crate) fn signed_number() -> Signed {
 }
 
 fn cut() -> Taken
-    ensures { λ r. ⌜ r .count ≡ 0 ⌝ }
+    ensures { λ r. ⌜ None r ⌝ }
 {
     Taken {
         whole: false,
         count: 0,
+    }
+}
+
+// A length as it was read, against a space of `most`: taken up to that very number, and no more.
+fn within(n: u64, most: usize) -> Taken
+    ensures { λ r. ⌜ Unless (n ≤ most) (None r) (All n r) ⌝ }
+{
+    if (most as u64) < n {
+        return cut();
+    }
+    Taken {
+        whole: true,
+        count: n as usize,
     }
 }
 
@@ -108,13 +123,7 @@ fn size(most: usize) -> Taken
     let Unsigned::Of(n) = number() else {
         return cut();
     };
-    if (most as u64) < n {
-        return cut();
-    }
-    Taken {
-        whole: true,
-        count: n as usize,
-    }
+    within(n, most)
 }
 
 // Fills the first n places of a space from the input; whether that had so many bytes.

@@ -1,11 +1,17 @@
--- What the C face promises is determined, as what it stands on is. Assumes nothing.
+-- Laws of the C face: it hands on the answer of the call below it, and so its promise is determined too. Assumes nothing.
 use mathlib.Core.Path.{_≡_, ap}
 use Prim.Native.Nat.{ℕ}
 use lib.IntN.{ℤ}
 use Rattle.units.specs.Units.{sixteenths, picometres}
+use Rattle.units.specs.declared.Sixteenths.{Sixteenths}
+use Rattle.units.specs.declared.Picometres.{Picometres}
 use Rattle.length.specs.declared.Sharpness.{Sharpness}
 use Rattle.length.specs.Length.{answer, LengthIs}
 use Rattle.length.proofs.Laws.{one-answer}
+
+-- an answer to the units is an answer to their numbers, and its length goes out as a plain number
+pub handed-on : {s s' : Sixteenths} {p p' : Picometres} {r : Sharpness} {q : ℕ} → s ≡ s' → p ≡ p' → q ≡ r .length .0 → LengthIs s p r → LengthIs s' p' (answer (r .number) q)
+handed-on factor pixel length is = rw (length, ← factor, ← pixel) is
 
 -- any two outcomes that `gong_length` is permitted, the number that it returns and the length that it writes, are equal
 module _ (factor : ℤ) (pixel : ℕ) (n q n' q' : ℕ) (this : LengthIs (sixteenths factor) (picometres pixel) (answer n q)) (that : LengthIs (sixteenths factor) (picometres pixel) (answer n' q')) where

@@ -23,15 +23,16 @@ pub record InRange (s : Sixteenths) (p : Picometres) : Type 0 where
 abbrev pub AtMost : Sixteenths → Picometres → ℕ → Type 0
 AtMost s p q = (pos 512 *ℤ square (pos q)) ≤ℤ square (pos (p .0) *ℤ s .0)
 
--- "the greatest whole q with 512·q² ≤ (p·s)²", and the number 0
+-- "0 | done", and "the greatest whole q with 512·q² ≤ (p·s)²"
 pub record Done (s : Sixteenths) (p : Picometres) (r : Sharpness) : Type 0 where
   pub number : r .number ≡ 0
   pub length : Greatest (AtMost s p) (r .length .0)
 
--- an answer by its two numbers; "a refused call returns that number and zeros"
+-- an answer by its two numbers
 abbrev pub answer : ℕ → ℕ → Sharpness
 answer n q = record { number = n; length = picometres q }
 
+-- a refusal: the number, and "All other returned numbers are 0"
 abbrev pub refused : ℕ → Sharpness
 refused n = answer n 0
 

@@ -15,12 +15,14 @@ pub struct Picometres(u64);
 pub struct Eighths(u64);
 
 impl Sixteenths {
+    // So many sixteenths of a pixel.
     pub fn of(n: i64) -> Self
         ensures { λ r. ⌜ r ≡ sixteenths n ⌝ }
     {
         Sixteenths(n)
     }
 
+    // How many sixteenths of a pixel they are.
     pub fn amount(self) -> i64
         ensures { λ r. ⌜ r ≡ self .0 ⌝ }
     {
@@ -29,12 +31,14 @@ impl Sixteenths {
 }
 
 impl Picometres {
+    // So many picometres.
     pub fn of(n: u64) -> Self
         ensures { λ r. ⌜ r ≡ picometres n ⌝ }
     {
         Picometres(n)
     }
 
+    // How many picometres they are.
     pub fn amount(self) -> u64
         ensures { λ r. ⌜ r ≡ self .0 ⌝ }
     {
@@ -43,12 +47,14 @@ impl Picometres {
 }
 
 impl Eighths {
+    // So many eighths of a level.
     pub fn of(n: u64) -> Self
         ensures { λ r. ⌜ r ≡ eighths n ⌝ }
     {
         Eighths(n)
     }
 
+    // How many eighths of a level they are.
     pub fn amount(self) -> u64
         ensures { λ r. ⌜ r ≡ self .0 ⌝ }
     {

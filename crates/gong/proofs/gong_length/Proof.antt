@@ -4,6 +4,7 @@ use mir.Syntax.{w64}
 use mir.ValLaws.{toZ-ofZ}
 use borrow.Author.Needs.{needs}
 use Rattle.units.specs.Units.{sixteenths}
+use Rattle.gong.proofs.Laws.{handed-on}
 use Rattle.gong.proofs.gong_length.Statement.{statement}
 use Rattle.gong.proofs.gong_length.Tie as tie
 
@@ -26,7 +27,7 @@ amount-requires c κs = search needs
 returns : tie.Need-returns
 returns c =
     let l = c .before in
-    rw (c .amount .ensures) (rw (factor (l .before .before), l .before .of2 .ensures) at (l .length .ensures))
+    handed-on (factor (l .before .before)) (l .before .of2 .ensures) (c .amount .ensures) (l .length .ensures)
 
 pub gong-length-spec : {M : Type 1} → statement M
 gong-length-spec =

@@ -1,14 +1,15 @@
 -- `calls::answer::copy` is safe and ends: it keeps the block's length. Assumes nothing.
-use Prim.Native.Nat.{_-_, _≤_}
-use mathlib.Core.Path.{_≡_, refl}
+use Prim.Native.Nat.{_-_}
+use mathlib.Core.Path.{refl}
 use native.Mathlib.Omega.{arith}
 use borrow.Author.Needs.{needs}
 use lib.ListN.{length}
+use Rattle.calls.proofs.Laws.{Filling}
 use Rattle.calls.proofs.answer.copy.Statement.{statement}
 use Rattle.calls.proofs.answer.copy.Tie as tie
 
 abbrev Inv-loop : tie.InvT-loop
-Inv-loop text n block₀ at i₀ block i = (i ≤ n) × (length block ≡ length block₀)
+Inv-loop text n block₀ at i₀ block i = Filling n block₀ block i
 
 abbrev μ-loop : tie.MeasureT-loop
 μ-loop text n block₀ at i₀ block i = n - i

@@ -1,14 +1,14 @@
 -- `calls::answer::counts` meets its contract: the block keeps its length, and the text stays within it. Assumes nothing.
-use Prim.Native.Nat.{_-_, _≤_}
-use mathlib.Core.Path.{_≡_}
+use Prim.Native.Nat.{_-_}
 use native.Mathlib.Omega.{arith}
 use borrow.Author.Needs.{needs}
 use lib.ListN.{length}
+use Rattle.calls.proofs.Laws.{Writing}
 use Rattle.calls.proofs.answer.counts.Statement.{statement}
 use Rattle.calls.proofs.answer.counts.Tie as tie
 
 abbrev Inv-loop : tie.InvT-loop
-Inv-loop block₀ at s to₀ i₀ block to i = (32 ≤ length block) × (to ≤ length block) × (length block ≡ length block₀)
+Inv-loop block₀ at s to₀ i₀ block to i = Writing block₀ block to
 
 abbrev μ-loop : tie.MeasureT-loop
 μ-loop block₀ at s to₀ i₀ block to i = length s - i

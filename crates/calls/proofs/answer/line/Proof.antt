@@ -1,14 +1,14 @@
 -- `calls::answer::line` meets its contract: the block keeps its length, and the text stays within it. Assumes nothing.
-use Prim.Native.Nat.{_-_, _≤_}
-use mathlib.Core.Path.{_≡_}
+use Prim.Native.Nat.{_-_}
 use native.Mathlib.Omega.{arith}
 use borrow.Author.Needs.{needs}
 use lib.ListN.{length}
+use Rattle.calls.proofs.Laws.{Writing}
 use Rattle.calls.proofs.answer.line.Statement.{statement}
 use Rattle.calls.proofs.answer.line.Tie as tie
 
 abbrev Inv-loop : tie.InvT-loop
-Inv-loop block₀ letter numbers at₀ i₀ block at i = (32 ≤ length block) × (at ≤ length block) × (length block ≡ length block₀)
+Inv-loop block₀ letter numbers at₀ i₀ block at i = Writing block₀ block at
 
 abbrev μ-loop : tie.MeasureT-loop
 μ-loop block₀ letter numbers at₀ i₀ block at i = length numbers - i

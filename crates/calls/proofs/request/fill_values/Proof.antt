@@ -1,14 +1,14 @@
 -- `calls::request::fill_values` is safe and ends: it keeps the space's length. Assumes nothing.
-use Prim.Native.Nat.{_-_, _≤_}
-use mathlib.Core.Path.{_≡_}
+use Prim.Native.Nat.{_-_}
 use native.Mathlib.Omega.{arith}
 use borrow.Author.Needs.{needs}
 use lib.ListN.{length}
+use Rattle.calls.proofs.Laws.{Filling}
 use Rattle.calls.proofs.request.fill_values.Statement.{statement}
 use Rattle.calls.proofs.request.fill_values.Tie as tie
 
 abbrev Inv-loop : tie.InvT-loop
-Inv-loop space₀ n v i₀ space i = (i ≤ n) × (length space ≡ length space₀)
+Inv-loop space₀ n v i₀ space i = Filling n space₀ space i
 
 abbrev μ-loop : tie.MeasureT-loop
 μ-loop space₀ n v i₀ space i = n - i

@@ -1,14 +1,14 @@
 -- `calls::request::join_pairs` is safe and ends: it keeps the space's length. Assumes nothing.
-use Prim.Native.Nat.{_-_, _≤_}
-use mathlib.Core.Path.{_≡_}
+use Prim.Native.Nat.{_-_}
 use native.Mathlib.Omega.{arith}
 use borrow.Author.Needs.{needs}
 use lib.ListN.{length}
+use Rattle.calls.proofs.Laws.{Filling}
 use Rattle.calls.proofs.request.join_pairs.Statement.{statement}
 use Rattle.calls.proofs.request.join_pairs.Tie as tie
 
 abbrev Inv-loop : tie.InvT-loop
-Inv-loop b space₀ at k i₀ space i = (i ≤ k) × (length space ≡ length space₀)
+Inv-loop b space₀ at k i₀ space i = Filling k space₀ space i
 
 abbrev μ-loop : tie.MeasureT-loop
 μ-loop b space₀ at k i₀ space i = k - i
