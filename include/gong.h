@@ -32,7 +32,7 @@
  *               else
  *                   fprintf(stderr, "refused: %d\n", number);    // 14; length is 0
  *
- * examples/c/length.c is a whole program.
+ * examples/c/filter.c and examples/c/length.c are whole programs.
  */
 #ifndef GONG_H
 #define GONG_H
@@ -67,6 +67,21 @@ enum gong_number {
     GONG_SHORT_BODY = 17,          /* the program only: record body cut short                            */
     GONG_LONG_INPUT = 18           /* the program only: input above 32,768 bytes                         */
 };
+
+/* The median, three times: the picture that the judge and the threshold look at.
+ *   levels   the picture, width times height levels of 8 bits, row by row
+ *   width, height   each 1 to 1,024
+ *   output   receives pass three, in eighths of a level: 0 to 2,040
+ *   work     receives pass two, in quarters of a level: 0 to 1,020
+ * A pass replaces each pixel by the median of its 3 by 3 block: of the levels of the block that lie
+ * inside the picture, sorted, the middle one, or the mean of the two middle ones where their number
+ * is even. Levels outside the picture are dropped, so a corner has 4, an edge 6 and the rest 9.
+ * Nothing is rounded, and each pass reads only the finished pass before it.
+ * Both buffers need width times height elements; what they have beyond that stays as it was. levels,
+ * output and work must not overlap.
+ * Returns 0; or 1, 2, 3 or 4, and then nothing is written. */
+uint8_t gong_filter(const uint8_t *levels, size_t levels_len, size_t width, size_t height, uint16_t *output,
+                    size_t output_len, uint16_t *work, size_t work_len);
 
 /* The length of a sharpness.
  *   factor   the sharpness factor, in sixteenths of a pixel: 1 to 16,384

@@ -32,8 +32,61 @@ def length_arguments(rng):
     return factor, pixel
 
 
+def picture(rng, kind, width, height):
+    """The levels of a picture: one of KINDS."""
+    low, high = sorted((wide(rng, 8), rng.randrange(256)))
+    across, down = rng.randint(-9, 9), rng.randint(-9, 9)
+    level = {
+        'random': lambda x, y: rng.randrange(256),
+        'constant': lambda x, y: high,
+        'two levels': lambda x, y: rng.choice((low, high)),
+        'sloped': lambda x, y: (low + across * x + down * y) % 256,
+        'mostly dark': lambda x, y: high if rng.random() < 0.1 else 0,
+    }[kind]
+    return [level(x, y) for y in range(height) for x in range(width)]
+
+
+KINDS = 'random', 'constant', 'two levels', 'sloped', 'mostly dark'
+
+
+def sides(rng):
+    """Width and height: small, thin, or neither; large ones cost the second program time."""
+    return rng.choice((
+        lambda: (rng.randint(1, 5), rng.randint(1, 5)),
+        lambda: (rng.randint(1, 5), rng.randint(1, 5)),
+        lambda: (rng.randint(1, 3), rng.randint(1, 30)),
+        lambda: (rng.randint(1, 30), rng.randint(1, 3)),
+        lambda: (rng.randint(5, 14), rng.randint(5, 14)),
+    ))()
+
+
+def fill(rng):
+    """What a buffer holds before the call: only its low 16 bits count."""
+    return wide(rng, rng.choice((16, 64)))
+
+
+def filter_arguments(rng):
+    """A picture and two buffers: mostly good, else a side out of range, a wrong number of levels, a short buffer."""
+    width, height = sides(rng)
+    levels = picture(rng, rng.choice(KINDS), width, height)
+    output, work = len(levels) + rng.choice((0, 0, 0, 1, 5)), len(levels) + rng.choice((0, 0, 0, 1, 5))
+    wrong = rng.choice(('nothing', 'nothing', 'nothing', 'nothing', 'side', 'sides', 'levels', 'output', 'work', 'buffers'))
+    if wrong in ('side', 'sides'):
+        width = rng.choice((0, near(rng, 1_025), wide(rng, 64)))
+    if wrong == 'sides':
+        height = rng.choice((0, near(rng, 1_025), wide(rng, 64)))
+    if wrong == 'levels':
+        levels = rng.choice((levels[1:], levels + [7], [], levels * 2))
+    if wrong in ('output', 'buffers'):
+        output = rng.choice((len(levels) - 1, rng.randrange(len(levels)), 0))
+    if wrong in ('work', 'buffers'):
+        work = rng.choice((len(levels) - 1, rng.randrange(len(levels)), 0))
+    return levels, width, height, (output, fill(rng)), (work, fill(rng))
+
+
 # For each call, what makes good arguments for it.
 ARGUMENTS = {
+    b'f': filter_arguments,
     b'l': length_arguments,
 }
 
@@ -86,6 +139,7 @@ def random_input(rng, kind):
 
 # For each call, one request that is sure to be good.
 EXAMPLES = {
+    b'f': ([1, 2, 3, 4], 2, 2, (5, 9), (4, 8)),
     b'l': (32, 800),
 }
 
@@ -96,3 +150,28 @@ def endings():
         whole = wire.encoded(letter, *example)
         yield from (whole + whole[:size] for size in range(len(whole) + 1))
     yield from (b'', b'?', b'\0', b'\xff' * 100)
+
+
+def small_sizes():
+    return [(width, height) for width in range(1, 7) for height in range(1, 7)]
+
+
+def every_kind(rng, width, height):
+    """One picture of each kind, of one size."""
+    made = b''
+    for kind in KINDS:
+        levels = picture(rng, kind, width, height)
+        made += wire.encoded(b'f', levels, width, height, (len(levels), fill(rng)), (len(levels), fill(rng)))
+    return made
+
+
+def large(rng):
+    """The largest picture; the longest thin ones; slices and buffers as long as a request may have, and one longer."""
+    whole = picture(rng, 'random', 1_024, 1_024)
+    made = wire.encoded(b'f', whole, 1_024, 1_024, (len(whole) + 1, fill(rng)), (len(whole), fill(rng)))
+    for width, height in ((1_024, 1), (1, 1_024), (1_024, 2), (2, 1_024), (1_023, 3), (3, 1_023)):
+        levels = picture(rng, rng.choice(KINDS), width, height)
+        made += wire.encoded(b'f', levels, width, height, (len(levels), fill(rng)), (len(levels), fill(rng)))
+    made += wire.encoded(b'f', whole + [1], 1_024, 1_024, (2, 3), (0, 0))  # one level too many: 2
+    made += wire.encoded(b'f', whole, 1_024, 1_024, (2, 3), (wire.MOST, fill(rng)))  # 3
+    return made + wire.encoded(b'f', [], 1, 1, (wire.MOST + 1, 0), (0, 0))  # a bad request

@@ -12,6 +12,7 @@ from pathlib import Path
 
 TOP = Path(__file__).resolve().parent.parent
 CALLS = TOP / 'target' / 'bin' / 'calls'
+DOOR = TOP / 'target' / 'c' / 'door'
 
 
 def toolchain():
@@ -22,14 +23,26 @@ def toolchain():
     return Path(guide).parent.parent / 'on' / platform.machine() / 'toolchain'
 
 
-def command(program=CALLS):
-    """The words that run a program that rt built."""
-    if not program.exists():
-        raise SystemExit(f'second: there is no {program.relative_to(TOP)}; `rt check calls` makes it')
-    tools = toolchain()
-    emulator = tools / 'bin' / 'qemu-x86_64'
-    words = [str(emulator)] if emulator.exists() else []
-    return words + [str(tools / 'lib' / 'ld-linux-x86-64.so.2'), '--library-path', str(tools / 'lib'), str(program)]
+def emulator():
+    """The words that run x86-64 code here: none where the machine is one."""
+    there = toolchain() / 'bin' / 'qemu-x86_64'
+    return [str(there)] if there.exists() else []
+
+
+def command():
+    """The words that run `calls`."""
+    if not CALLS.exists():
+        raise SystemExit(f'second: there is no {CALLS.relative_to(TOP)}; `rt check calls` makes it')
+    library = toolchain() / 'lib'
+    return emulator() + [str(library / 'ld-linux-x86-64.so.2'), '--library-path', str(library), str(CALLS)]
+
+
+def door():
+    """The words that run the C door, or None with the reason printed."""
+    if not DOOR.exists():
+        print(f'the C door was not compared: there is no {DOOR.relative_to(TOP)} (.ci/c-door makes it)')
+        return None
+    return emulator() + [str(DOOR)]
 
 
 if __name__ == '__main__':

@@ -84,6 +84,7 @@ VALUE_BUFFER, COUNT_BUFFER = Buffer('H', MOST), Buffer('I', MOST_COUNTS)
 Call = namedtuple('Call', 'arguments rule')
 
 CALLS = {
+    b'f': Call([LEVELS, UNSIGNED, UNSIGNED, VALUE_BUFFER, VALUE_BUFFER], rules.filter),
     b'l': Call([SIGNED, UNSIGNED], rules.length),
 }
 

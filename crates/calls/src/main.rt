@@ -31,6 +31,7 @@ fn call(
     requires { ⌜ 32 ≤ length (now block) ⌝ }
 {
     match letter {
+        b'f' => each::filter(block, levels, one, two),
         b'l' => each::length(block),
         _ => false,
     }

@@ -2,9 +2,25 @@
 // crates below; here plain numbers become units, and an answer's parts go out by the number that
 // the function returns and through the pointers that the caller lends.
 ghost use Rattle.units.specs.Units.{sixteenths, picometres};
+ghost use Rattle.filter.specs.Filter.{outcome, FilterIs};
 ghost use Rattle.length.specs.Length.{answer, LengthIs};
 use units::Picometres;
 use units::Sixteenths;
+
+// The median, three times: output receives pass three in eighths of a level, work pass two in
+// quarters.
+#[no_mangle]
+pub extern "C" fn gong_filter(
+    levels: &[u8],
+    width: usize,
+    height: usize,
+    output: &mut [u16],
+    work: &mut [u16],
+) -> u8
+    ensures { λ r. ⌜ FilterIs (now (levels .entry)) width height (now (output .entry)) (now (work .entry)) (outcome r (now (output .exit)) (now (work .exit))) ⌝ }
+{
+    filter::filter(levels, width, height, output, work)
+}
 
 // The length of a sharpness: factor in sixteenths of a pixel, pixel and length in picometres.
 #[no_mangle]

@@ -15,3 +15,8 @@ together f g (inl a) (inl b) = f (a .1) (b .1)
 together f g (inl a) (inr b) = absurd (a .0 (b .0))
 together f g (inr a) (inl b) = absurd (b .0 (a .0))
 together f g (inr a) (inr b) = g (a .1) (b .1)
+
+-- what stops there and what goes on, each said in other words
+pub carried : {P A B A' B' : Type 0} → (A → A') → (B → B') → Unless P A B → Unless P A' B'
+carried f g (inl a) = inl (a .0, f (a .1))
+carried f g (inr b) = inr (b .0, g (b .1))

@@ -1,0 +1,89 @@
+-- A block: the columns that the code takes are those that lie next to a pixel, and once they are put in, its median is read off.
+use mathlib.Core.Path.{_≡_, refl, sym, ap, _∙_}
+use mathlib.Core.List.{List, [], _∷_, _++_, append-nil}
+use Prim.Native.Nat.{ℕ, zero, suc, _+_, _-_, _/_, _≤_, zero-le, min}
+use native.Mathlib.Nat.{zero-add, zero-min, min-zero, suc-min-suc}
+use native.Mathlib.Omega.{arith}
+use lib.ListN.{length, getD, take, drop, length-append}
+use lib.Seq.{slice, length-slice, take-nil, drop-nil}
+use Rattle.filter.specs.Median.{near, insertAll, sorted, twiceMedian, block, joined, rowOf}
+use Rattle.filter.specs.Filter.{AtMost}
+use Rattle.filter.specs.Asked.{Row}
+use Rattle.filter.proofs.Ranges.{most-append, most-slice, most-insertAll}
+use Rattle.filter.proofs.Inserting.{Gathered, insertAll-append}
+
+-- the first n of t are the levels of l, sorted
+pub record Holds (n : ℕ) (t l : List ℕ) : Type 0 where
+  pub long : length l ≡ n
+  pub order : take n t ≡ sorted l
+  pub small : AtMost 1020 l
+
+-- with some columns of one more row
+pub holds-more : (n f c m : ℕ) (row t t' l : List ℕ) → Holds n t l → Row m row → f + c ≤ m → Gathered row t t' n f c → Holds (n + c) t' (l ++ slice f (f + c) row)
+unfolding sorted
+holds-more n f c m row t t' l p r h g =
+    let long = r .0 in
+    record {
+      long = simp (length-append, length-slice f (f + c) row (omega arith)) (omega (arith, p .long));
+      order = g ∙ rw (p .order) (sym (insertAll-append [] l (slice f (f + c) row)));
+      small = most-append 1020 l (slice f (f + c) row) (p .small) (most-slice 1020 f (f + c) row (r .1));
+    }
+
+-- which may be the first
+pub holds-first : (f c m : ℕ) (row t' : List ℕ) → Row m row → f + c ≤ m → Gathered row [] t' 0 f c → Holds c t' (slice f (f + c) row)
+unfolding sorted insertAll
+holds-first f c m row t' r h g =
+    rw (zero-add c) at (holds-more 0 f c m row [] t' [] (record { long = refl; order = refl; small = λ k. zero-le }) r h g)
+
+pub held-small : (n : ℕ) (t l : List ℕ) → Holds n t l → AtMost 1020 (take n t)
+unfolding sorted
+held-small n t l p = rw (p .order) (most-insertAll 1020 [] l (λ k. zero-le) (p .small))
+
+pub held-median : (n r : ℕ) (t l : List ℕ) → Holds n t l → r ≡ getD (take n t) ((n - 1) / 2) 0 + getD (take n t) (n / 2) 0 → r ≡ twiceMedian l
+unfolding twiceMedian
+held-median n r t l p e = e ∙ rw (p .order, ← (p .long))
+
+take-min : (n : ℕ) (l : List ℕ) → take (min n (length l)) l ≡ take n l
+take-min zero l = rw zero-min
+take-min (suc n) [] = rw min-zero
+take-min (suc n) (x ∷ l) = rw suc-min-suc (ap (λ (r : List ℕ). x ∷ r) (take-min n l))
+
+-- the columns from f on are those next to column i
+abbrev pub Next : ℕ → ℕ → ℕ → ℕ → Type 0
+Next n i f c = (f ≡ i - 1) × (f + c ≡ min (i + 2) n)
+
+near-is : (i f c : ℕ) (row : List ℕ) → Next (length row) i f c → near i row ≡ slice f (f + c) row
+unfolding near
+near-is i f c row p = rw (p .1, p .0) (ap (drop (i - 1)) (sym (take-min (i + 2) row)))
+
+near-nothing : (i : ℕ) → near i [] ≡ []
+unfolding near
+near-nothing i = rw (take-nil (i + 2), drop-nil (i - 1))
+
+-- a block of three rows, of two and of one
+module _ (i f c n v : ℕ) (next : Next n i f c) where
+  pub cell-of-three : (a h b : List ℕ) → length a ≡ n → length h ≡ n → length b ≡ n → v ≡ twiceMedian (slice f (f + c) a ++ slice f (f + c) h ++ slice f (f + c) b) → v ≡ twiceMedian (block a h b i)
+  unfolding block
+  cell-of-three a h b p q r e = e ∙ rw (near-is i f c a (rw p next), near-is i f c h (rw q next), near-is i f c b (rw r next))
+
+  pub cell-of-two : (u l : List ℕ) → length u ≡ n → length l ≡ n → v ≡ twiceMedian (slice f (f + c) u ++ slice f (f + c) l) → v ≡ twiceMedian (block [] u l i)
+  unfolding block
+  cell-of-two u l p q e = e ∙ rw (near-nothing i, near-is i f c u (rw p next), near-is i f c l (rw q next))
+
+  pub cell-of-one : (h : List ℕ) → length h ≡ n → v ≡ twiceMedian (slice f (f + c) h) → v ≡ twiceMedian (block [] h [] i)
+  unfolding block
+  cell-of-one h p e = e ∙ rw (near-nothing i, near-is i f c h (rw p next), append-nil (slice f (f + c) h))
+
+joined-same : (n : ℕ) (f g : ℕ → List ℕ) → ((i : ℕ) → f i ≡ g i) → joined n f ≡ joined n g
+unfolding joined
+joined-same zero f g e = refl
+joined-same (suc n) f g e = rw (joined-same n f g e, e n)
+
+block-below : (u l : List ℕ) (i : ℕ) → block u l [] i ≡ block [] u l i
+unfolding block
+block-below u l i = rw (near-nothing i) (append-nil (near i u ++ near i l))
+
+-- the lower of two rows has the blocks of the upper one
+pub lower-row : (u l : List ℕ) → length u ≡ length l → rowOf u l [] ≡ rowOf [] u l
+unfolding rowOf
+lower-row u l e = rw e (joined-same (length l) _ _ (λ i. ap (λ (k : List ℕ). twiceMedian k ∷ []) (block-below u l i)))

@@ -1,0 +1,11 @@
+pub mod Counts
+pub mod Ranges
+pub mod Inserting
+pub mod Filling
+pub mod Parts
+pub mod Blocks
+pub mod Outcomes
+pub mod Sorting
+pub mod Lists
+pub mod Drawn
+pub mod Examples

@@ -1,0 +1,58 @@
+-- What the filter may answer and leave: the sizes decide the number, and the number decides the rest.
+use mathlib.Core.Path.{_≡_, refl, sym, ap, _∙_}
+use mathlib.Core.List.{List, _++_}
+use mathlib.Core.Logic.{inl, inr}
+use Prim.Native.Nat.{ℕ, _*_, _≤_}
+use native.Mathlib.Omega.{arith}
+use lib.ListN.{length, drop}
+use Rattle.numbers.proofs.Refusals.{goes-on, carried, together}
+use Rattle.filter.specs.Filter.{quarters, eighths, AtMost, Side, Sized, Outcome, outcome, FilterIs}
+use Rattle.filter.proofs.Ranges.{most-eighths}
+use Rattle.filter.proofs.Drawn.{length-eighths}
+
+-- sizes that none of 1 to 4 refuses
+pub record Fits (levels w h output work : ℕ) : Type 0 where
+  pub sides : Side w × Side h
+  pub all-levels : levels ≡ w * h
+  pub long-output : w * h ≤ output
+  pub long-work : w * h ≤ work
+
+-- where the number is 0, all four are passed
+pub fits : {levels w h output work r : ℕ} → r ≡ 0 → Sized levels w h output work (λ n. r ≡ n) (r ≡ 0) → Fits levels w h output work
+fits z (inl a) = absurd (let e = a .1 in omega arith)
+fits z (inr (s, inl a)) = absurd (let e = a .1 in omega arith)
+fits z (inr (s, inr (l, inl a))) = absurd (let e = a .1 in omega arith)
+fits z (inr (s, inr (l, inr (o, inl a)))) = absurd (let e = a .1 in omega arith)
+fits z (inr (s, inr (l, inr (o, inr (k, d))))) = record { sides = s; all-levels = l; long-output = o; long-work = k }
+
+module _ (levels : List ℕ) (w h : ℕ) (output work : List ℕ) where
+  -- a refused call: the number, and nothing written
+  pub refused : (r : ℕ) → (r ≡ 0 → ⊥) → Sized (length levels) w h (length output) (length work) (λ n. r ≡ n) (r ≡ 0) → FilterIs levels w h output work (outcome r output work)
+  refused r some = carried kept (carried kept (carried kept (carried kept (λ z. absurd (some z)))))
+    where
+      kept : {n : ℕ} → r ≡ n → outcome r output work ≡ outcome n output work
+      kept e = ap (λ (m : ℕ). outcome m output work) e
+
+  -- a call that is done
+  pub done : (x y : List ℕ) → AtMost 255 levels → Fits (length levels) w h (length output) (length work) → x ≡ eighths w h levels → y ≡ quarters w h levels
+      → FilterIs levels w h output work (outcome 0 (x ++ drop (w * h) output) (y ++ drop (w * h) work))
+  done x y small f three two =
+      goes-on (f .sides) (goes-on (f .all-levels) (goes-on (f .long-output) (goes-on (f .long-work)
+      (record {
+        number = refl;
+        pass-three = ap (λ (l : List ℕ). l ++ drop (w * h) output) three;
+        pass-two = ap (λ (l : List ℕ). l ++ drop (w * h) work) two;
+        long = length-eighths w h levels (f .all-levels);
+        most = most-eighths w h levels small;
+      }))))
+
+  -- the answer is determined: two outcomes that the promise permits are one
+  same : (a b : Outcome) → a .number ≡ b .number → a .output ≡ b .output → a .work ≡ b .work → a ≡ b
+  same a b n o k = λ i. outcome (n i) (o i) (k i)
+
+  pub one-outcome : (a b : Outcome) → FilterIs levels w h output work a → FilterIs levels w h output work b → a ≡ b
+  one-outcome a b =
+      together refuse (together refuse (together refuse (together refuse (λ p q. same a b (p .number ∙ sym (q .number)) (p .pass-three ∙ sym (q .pass-three)) (p .pass-two ∙ sym (q .pass-two))))))
+    where
+      refuse : {n : ℕ} → a ≡ outcome n output work → b ≡ outcome n output work → a ≡ b
+      refuse p q = p ∙ sym q

@@ -1,0 +1,102 @@
+-- Lists whose elements are at most b, and what a pass makes of them.
+use mathlib.Core.List.{List, [], _∷_, _++_}
+use Prim.Native.Nat.{ℕ, zero, suc, _+_, _-_, _*_, _/_, _≤_, zero-le, max}
+use mathlib.Core.Path.{_≡_}
+use native.Mathlib.Nat.{le-trans}
+use native.Mathlib.Omega.{arith}
+use lib.ListN.{length, take, drop}
+use lib.Seq.{slice}
+use Rattle.filter.specs.Median.{near, insert, insertAll, sorted, twiceMedian, block, joined, rowOf, passRow, pass}
+use Rattle.filter.specs.Filter.{AtMost, Side, halves, quarters, eighths}
+use Rattle.filter.specs.Asked.{Picture}
+
+-- of an element and a list
+most-cons : (b x : ℕ) (l : List ℕ) → x ≤ b → AtMost b l → AtMost b (x ∷ l)
+most-cons b x l p q zero = p
+most-cons b x l p q (suc k) = q k
+
+-- of two lists, one after the other
+pub most-append : (b : ℕ) (l m : List ℕ) → AtMost b l → AtMost b m → AtMost b (l ++ m)
+most-append b [] m p q k = q k
+most-append b (x ∷ l) m p q zero = p zero
+most-append b (x ∷ l) m p q (suc k) = most-append b l m (λ i. p (suc i)) q k
+
+most-take : (b n : ℕ) (l : List ℕ) → AtMost b l → AtMost b (take n l)
+most-take b zero l p k = zero-le
+most-take b (suc n) [] p k = zero-le
+most-take b (suc n) (x ∷ l) p zero = p zero
+most-take b (suc n) (x ∷ l) p (suc k) = most-take b n l (λ i. p (suc i)) k
+
+most-drop : (b n : ℕ) (l : List ℕ) → AtMost b l → AtMost b (drop n l)
+most-drop b zero l p k = p k
+most-drop b (suc n) [] p k = zero-le
+most-drop b (suc n) (x ∷ l) p k = most-drop b n l (λ i. p (suc i)) k
+
+-- of a part
+pub most-slice : (b f t : ℕ) (l : List ℕ) → AtMost b l → AtMost b (slice f t l)
+most-slice b f t l p = most-drop b f (take t l) (most-take b t l p)
+
+most-insert : (b v : ℕ) (l : List ℕ) → v ≤ b → AtMost b l → AtMost b (insert v l)
+unfolding insert
+most-insert b v [] h p k = most-cons b v [] h p k
+most-insert b v (x ∷ l) h p zero = omega (arith, p zero)
+most-insert b v (x ∷ l) h p (suc k) = most-insert b (max v x) l (omega (arith, p zero)) (λ i. p (suc i)) k
+
+-- levels put into levels: the bound holds for both, so for all
+pub most-insertAll : (b : ℕ) (d l : List ℕ) → AtMost b d → AtMost b l → AtMost b (insertAll d l)
+unfolding insertAll
+most-insertAll b d [] p q = p
+most-insertAll b d (x ∷ l) p q = most-insertAll b (insert x d) l (most-insert b x d (q zero) p) (λ i. q (suc i))
+
+most-median : (b : ℕ) (l : List ℕ) → AtMost b l → twiceMedian l ≤ b + b
+unfolding twiceMedian sorted
+most-median b l p =
+    let s = most-insertAll b [] l (λ k. zero-le) p in
+    omega (arith, s ((length l - 1) / 2), s (length l / 2))
+
+most-near : (b i : ℕ) (row : List ℕ) → AtMost b row → AtMost b (near i row)
+unfolding near
+most-near b i row p = most-slice b (i - 1) (i + 2) row p
+
+most-block : (b : ℕ) (above here below : List ℕ) (i : ℕ) → AtMost b above → AtMost b here → AtMost b below → AtMost b (block above here below i)
+unfolding block
+most-block b above here below i p q r =
+    most-append b (near i above ++ near i here) (near i below)
+    (most-append b (near i above) (near i here) (most-near b i above p) (most-near b i here q))
+    (most-near b i below r)
+
+most-joined : (b n : ℕ) (f : ℕ → List ℕ) → ((i : ℕ) → AtMost b (f i)) → AtMost b (joined n f)
+unfolding joined
+most-joined b zero f p k = zero-le
+most-joined b (suc n) f p k = most-append b (joined n f) (f n) (most-joined b n f p) (p n) k
+
+most-row : (b : ℕ) (above here below : List ℕ) → AtMost b above → AtMost b here → AtMost b below → AtMost (b + b) (rowOf above here below)
+unfolding rowOf
+most-row b above here below p q r =
+    most-joined (b + b) (length here) (λ i. twiceMedian (block above here below i) ∷ [])
+    (λ i. most-cons (b + b) (twiceMedian (block above here below i)) [] (most-median b (block above here below i) (most-block b above here below i p q r)) (λ k. zero-le))
+
+-- a pass at most doubles what it is given
+pub most-pass : (b w h : ℕ) (x : List ℕ) → AtMost b x → AtMost (b + b) (pass w h x)
+unfolding pass passRow
+most-pass b w h x p =
+    most-joined (b + b) h (passRow w x)
+    (λ j. most-row b (slice (j * w - w) (j * w) x) (slice (j * w) (j * w + w) x) (slice (j * w + w) (j * w + w + w) x) (most-slice b (j * w - w) (j * w) x p) (most-slice b (j * w) (j * w + w) x p) (most-slice b (j * w + w) (j * w + w + w) x p))
+
+-- each pass's range: "the first pass is held in halves, the second in quarters, the third in eighths (0 to 2,040)"
+module _ (w h : ℕ) (levels : List ℕ) (p : AtMost 255 levels) where
+  pub most-halves : AtMost 510 (halves w h levels)
+  unfolding halves
+  most-halves = most-pass 255 w h levels p
+
+  pub most-quarters : AtMost 1020 (quarters w h levels)
+  unfolding quarters
+  most-quarters = most-pass 510 w h (halves w h levels) most-halves
+
+  pub most-eighths : AtMost 2040 (eighths w h levels)
+  unfolding eighths
+  most-eighths = most-pass 1020 w h (quarters w h levels) most-quarters
+
+-- a list that is small enough, and of the right length, is a picture that a pass can take
+pub picture-of : (b w h : ℕ) (x y : List ℕ) → Side w × Side h → length x ≡ w * h → x ≡ y → AtMost b y → b ≤ 1020 → Picture w h x
+picture-of b w h x y sides long e p q = record { sides = sides; whole = long; small = rw e (λ k. le-trans (p k) q) }

@@ -1,0 +1,66 @@
+-- `of_two` meets its contract: both rows' columns are put in (`held`), and their median is read off. Assumes nothing.
+use Prim.Native.Nat.{ℕ, _+_}
+use mathlib.Core.List.{List, _++_}
+use native.Mathlib.Omega.{arith}
+use borrow.Author.Needs.{needs}
+use denote.Ref.{now}
+use lib.Seq.{slice}
+use Rattle.filter.proofs.Counts.{columns-times-rows}
+use Rattle.filter.proofs.Blocks.{Holds, holds-first, holds-more, held-small, held-median}
+use Rattle.filter.proofs.block.of_two.Statement.{statement}
+use Rattle.filter.proofs.block.of_two.Tie as tie
+
+slice-aggregate-gather : tie.Need-slice-aggregate-gather
+slice-aggregate-gather c = search needs
+
+gather-requires : tie.Need-gather-requires
+gather-requires c κs = search needs
+
+slice-aggregate-gather-2 : tie.Need-slice-aggregate-gather-2
+slice-aggregate-gather-2 c = search needs
+
+gather-requires-2 : tie.Need-gather-requires-2
+gather-requires-2 c κs = search needs
+
+slice-aggregate-middle : tie.Need-slice-aggregate-middle
+slice-aggregate-middle c = search needs
+
+add-middle : tie.Need-add-middle
+add-middle c = search needs
+
+-- once the rows are in
+module _ (c : tie.After-gather2) where
+  abbrev S : tie.Start
+  S = c .before .before .before .before .before .before .before
+
+  abbrev columns : List ℕ → List ℕ
+  columns row = slice (S .args .first) (S .args .first + S .args .count) row
+
+  held : Holds (S .args .count + S .args .count) (c .gather2 .last .0) (columns (now (S .args .upper)) ++ columns (now (S .args .lower)))
+  held =
+      let rows = S .pre .0 in
+      let inside = S .pre .1 .2 in
+      let one = holds-first _ _ _ _ _ (rows .0) inside (c .before .before .before .gather .ensures) in
+      holds-more _ _ _ _ _ _ _ _ one (rows .1) inside (c .gather2 .ensures)
+
+middle-requires : tie.Need-middle-requires
+middle-requires c κs =
+    let g = c .before .before in
+    let columns = S g .pre .1 in
+    (columns-times-rows (S g .args .count) (columns .0) (columns .1) .1, omega arith, held-small _ _ _ (held g))
+
+returns : tie.Need-returns
+returns c = held-median _ _ _ _ (held (c .before .before .before)) (c .middle .ensures)
+
+pub of-two-spec : {M : Type 1} → statement M
+of-two-spec =
+    tie.close
+    (tie.spec
+    slice-aggregate-gather
+    gather-requires
+    slice-aggregate-gather-2
+    gather-requires-2
+    slice-aggregate-middle
+    add-middle
+    middle-requires
+    returns)

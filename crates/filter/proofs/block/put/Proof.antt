@@ -1,0 +1,88 @@
+-- `put` meets its contract: after k turns k levels are passed and one is carried on (`passed`). Assumes nothing.
+use Prim.Native.Nat.{_-_, _≤_}
+use mathlib.Core.Path.{_≡_, refl, sym, _∙_}
+use denote.Ref.{now}
+use native.Mathlib.Omega.{arith}
+use borrow.Author.Needs.{needs}
+use lib.ListN.{length, take, length-set}
+use Rattle.filter.specs.Median.{insert}
+use Rattle.filter.proofs.Inserting.{passed, passed-none, passed-more, passed-all}
+use Rattle.filter.proofs.block.put.Statement.{statement}
+use Rattle.filter.proofs.block.put.Tie as tie
+
+abbrev Inv-loop : tie.InvT-loop
+Inv-loop t₀ n v carried₀ k₀ t carried k = (k ≤ n) × (length t ≡ length t₀) × (passed t n k carried ≡ insert v (take n t₀))
+
+abbrev μ-loop : tie.MeasureT-loop
+μ-loop t₀ n v carried₀ k₀ t carried k = n - k
+
+loop-holds : tie.Need-loop-holds Inv-loop μ-loop
+loop-holds c = (search needs, refl, passed-none (now (c .before .args .t)) (c .before .args .n) (c .before .args .v))
+
+mul-x : tie.Need-mul-x Inv-loop μ-loop
+mul-x c = omega arith
+
+slice-read-x : tie.Need-slice-read-x Inv-loop μ-loop
+slice-read-x c = omega arith
+
+smaller-requires : tie.Need-smaller-requires Inv-loop μ-loop
+smaller-requires c κs = search needs
+
+mul-t : tie.Need-mul-t Inv-loop μ-loop
+mul-t c = omega arith
+
+slice-write-t : tie.Need-slice-write-t Inv-loop μ-loop
+slice-write-t c = omega arith
+
+larger-requires : tie.Need-larger-requires Inv-loop μ-loop
+larger-requires c κs = search needs
+
+add-k : tie.Need-add-k Inv-loop μ-loop
+add-k c = omega arith
+
+loop-less : tie.Need-loop-less Inv-loop μ-loop
+loop-less c = omega arith
+
+loop-again : tie.Need-loop-again Inv-loop μ-loop
+loop-again c =
+    let l = c .before .before .before .before .loop in
+    let n = c .before .before .before .before .before .before .args .n in
+    let room : n ≤ length (l .t) = omega arith in
+    (omega arith, simp length-set (l .inv .1), rw (c .larger .ensures, c .before .smaller .ensures) (sym (passed-more (l .t) n (l .k) (l .carried) (omega arith) room) ∙ l .inv .2))
+
+mul-t-2 : tie.Need-mul-t-2 Inv-loop μ-loop
+mul-t-2 c = omega arith
+
+slice-write-t-2 : tie.Need-slice-write-t-2 Inv-loop μ-loop
+slice-write-t-2 c = omega arith
+
+same-length : tie.Need-same-length Inv-loop μ-loop
+same-length c = simp length-set (c .before .loop .inv .1)
+
+returns : tie.Need-returns Inv-loop μ-loop
+returns c =
+    let l = c .before .loop in
+    let n = c .before .before .before .args .n in
+    let end : l .k ≡ n = omega arith in
+    passed-all (l .t) n (l .carried) (omega arith) ∙ rw end at (l .inv .2)
+
+pub put-spec : {M : Type 1} → statement M
+put-spec =
+    tie.close
+    (tie.spec
+    Inv-loop
+    μ-loop
+    loop-holds
+    mul-x
+    slice-read-x
+    smaller-requires
+    mul-t
+    slice-write-t
+    larger-requires
+    add-k
+    loop-less
+    loop-again
+    mul-t-2
+    slice-write-t-2
+    same-length
+    returns)

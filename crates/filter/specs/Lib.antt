@@ -1,0 +1,4 @@
+pub mod Median
+pub mod Filter
+pub mod Whiteboard
+pub mod Asked

@@ -1,0 +1,106 @@
+/* The C library driven from standard input, as the program `calls` drives the library below it: the
+ * same requests, the same lines (wire.py has both). So the comparison holds the C face to the second
+ * program on any machine that can run x86-64 code, in an emulator too.
+ *
+ * Beyond what `calls` can see it looks for what only C can get wrong: an answer that is not written
+ * (it starts as all ones), an element written past a buffer (a guard stands behind it), and an empty
+ * slice (its pointer is null). */
+#include <inttypes.h>
+#include <stdio.h>
+#include <stdlib.h>
+#include <string.h>
+
+#include "gong.h"
+
+#define MOST 1048577u /* elements of a slice or buffer: one more than any picture has */
+#define GUARDS 8u     /* elements behind a buffer that no call may touch */
+#define GUARD 0xA5A5u
+
+/* The memory that requests lend. */
+static uint8_t levels_space[MOST];
+static uint16_t output_space[MOST + GUARDS], work_space[MOST + GUARDS];
+
+static int bytes(void *to, size_t count) { return fread(to, 1, count, stdin) == count; }
+
+/* The machine is little-endian, as x86-64 is, and so are the requests. */
+static int number(uint64_t *to) { return bytes(to, 8); }
+
+static int slice(void *space, size_t width, size_t *count)
+{
+    uint64_t asked;
+
+    if (!number(&asked) || asked > MOST) return 0;
+    *count = (size_t)asked;
+    return bytes(space, *count * width);
+}
+
+static int buffer(uint16_t *space, size_t *count)
+{
+    uint64_t asked, fill;
+    size_t k;
+
+    if (!number(&asked) || asked > MOST || !number(&fill)) return 0;
+    *count = (size_t)asked;
+    for (k = 0; k < *count; k++) space[k] = (uint16_t)fill;
+    for (k = 0; k < GUARDS; k++) space[*count + k] = GUARD;
+    return 1;
+}
+
+/* A buffer as the call leaves it. */
+static void show(const uint16_t *space, size_t count)
+{
+    size_t k;
+
+    for (k = 0; k < count; k++) printf(k ? " %d" : "%d", space[k]);
+    putchar('\n');
+    for (k = 0; k < GUARDS; k++)
+        if (space[count + k] != GUARD) {
+            puts("an element past the buffer was written");
+            exit(3);
+        }
+}
+
+static int filter(void)
+{
+    uint64_t width, height;
+    size_t levels, output, work;
+
+    if (!slice(levels_space, 1, &levels) || !number(&width) || !number(&height)) return 0;
+    if (!buffer(output_space, &output) || !buffer(work_space, &work)) return 0;
+    printf("f %d\n", gong_filter(levels ? levels_space : NULL, levels, width, height, output ? output_space : NULL, output,
+                                 work ? work_space : NULL, work));
+    show(output_space, output);
+    show(work_space, work);
+    return 1;
+}
+
+static int length(void)
+{
+    uint64_t factor, pixel, picometres = UINT64_MAX;
+    int64_t sixteenths;
+    int number_back;
+
+    if (!number(&factor) || !number(&pixel)) return 0;
+    memcpy(&sixteenths, &factor, 8);
+    number_back = gong_length(sixteenths, pixel, &picometres);
+    printf("l %d %" PRIu64 "\n", number_back, picometres);
+    return 1;
+}
+
+int main(void)
+{
+    unsigned long answered = 0;
+    int letter, good = 1;
+
+    while (good && (letter = getchar()) != EOF) {
+        switch (letter) {
+        case 'f': good = filter(); break;
+        case 'l': good = length(); break;
+        default: good = 0;
+        }
+        answered += (unsigned long)good;
+        fflush(stdout);
+    }
+    printf("%s %lu\n", good ? "answered" : "bad request", answered);
+    return 0;
+}
