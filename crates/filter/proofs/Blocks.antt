@@ -1,7 +1,7 @@
 -- A block: the columns that the code takes are those that lie next to a pixel, and once they are put in, its median is read off.
 use mathlib.Core.Path.{_≡_, refl, sym, ap, _∙_}
 use mathlib.Core.List.{List, [], _∷_, _++_, append-nil}
-use Prim.Native.Nat.{ℕ, zero, suc, _+_, _-_, _/_, _≤_, zero-le, min}
+use Prim.Native.Nat.{ℕ, zero, suc, _+_, _-_, _*_, _/_, _≤_, _<_, zero-le, min}
 use native.Mathlib.Nat.{zero-add, zero-min, min-zero, suc-min-suc}
 use native.Mathlib.Omega.{arith}
 use lib.ListN.{length, getD, take, drop, length-append}
@@ -9,6 +9,7 @@ use lib.Seq.{slice, length-slice, take-nil, drop-nil}
 use Rattle.filter.specs.Median.{near, insertAll, sorted, twiceMedian, block, joined, rowOf}
 use Rattle.filter.specs.Filter.{AtMost}
 use Rattle.filter.specs.Asked.{Row}
+use Rattle.filter.proofs.Lists.{length-joined, joined-at}
 use Rattle.filter.proofs.Ranges.{most-append, most-slice, most-insertAll}
 use Rattle.filter.proofs.Inserting.{Gathered, insertAll-append}
 
@@ -60,19 +61,31 @@ near-nothing : (i : ℕ) → near i [] ≡ []
 unfolding near
 near-nothing i = rw (take-nil (i + 2), drop-nil (i - 1))
 
--- a block of three rows, of two and of one
-module _ (i f c n v : ℕ) (next : Next n i f c) where
-  pub cell-of-three : (a h b : List ℕ) → length a ≡ n → length h ≡ n → length b ≡ n → v ≡ twiceMedian (slice f (f + c) a ++ slice f (f + c) h ++ slice f (f + c) b) → v ≡ twiceMedian (block a h b i)
-  unfolding block
-  cell-of-three a h b p q r e = e ∙ rw (near-is i f c a (rw p next), near-is i f c h (rw q next), near-is i f c b (rw r next))
+-- a row of a pass is as long as the row that it is made from
+pub length-row : (above here below : List ℕ) → length (rowOf above here below) ≡ length here
+unfolding rowOf
+length-row above here below = length-joined (length here) 1 (λ i. twiceMedian (block above here below i) ∷ []) (λ i h. refl) ∙ omega arith
 
-  pub cell-of-two : (u l : List ℕ) → length u ≡ n → length l ≡ n → v ≡ twiceMedian (slice f (f + c) u ++ slice f (f + c) l) → v ≡ twiceMedian (block [] u l i)
-  unfolding block
-  cell-of-two u l p q e = e ∙ rw (near-nothing i, near-is i f c u (rw p next), near-is i f c l (rw q next))
+-- and has at column i twice the median of that column's block
+pub row-at : (above here below : List ℕ) (i : ℕ) → i < length here → getD (rowOf above here below) i 0 ≡ twiceMedian (block above here below i)
+unfolding rowOf
+row-at above here below i p =
+    let e : i * 1 + 0 ≡ i = omega arith in
+    rw e at (joined-at (length here) 1 (λ k. twiceMedian (block above here below k) ∷ []) (λ k h. refl) i 0 p (omega arith))
 
-  pub cell-of-one : (h : List ℕ) → length h ≡ n → v ≡ twiceMedian (slice f (f + c) h) → v ≡ twiceMedian (block [] h [] i)
+-- so what the code makes of three rows, of two and of one is what stands there
+module _ (i f c n v : ℕ) (column : i < n) (next : Next n i f c) where
+  pub cell-of-three : (a h b : List ℕ) → length a ≡ n → length h ≡ n → length b ≡ n → v ≡ twiceMedian (slice f (f + c) a ++ slice f (f + c) h ++ slice f (f + c) b) → v ≡ getD (rowOf a h b) i 0
   unfolding block
-  cell-of-one h p e = e ∙ rw (near-nothing i, near-is i f c h (rw p next), append-nil (slice f (f + c) h))
+  cell-of-three a h b p q r e = e ∙ rw (row-at a h b i (rw q column), near-is i f c a (rw p next), near-is i f c h (rw q next), near-is i f c b (rw r next))
+
+  pub cell-of-two : (u l : List ℕ) → length u ≡ n → length l ≡ n → v ≡ twiceMedian (slice f (f + c) u ++ slice f (f + c) l) → v ≡ getD (rowOf [] u l) i 0
+  unfolding block
+  cell-of-two u l p q e = e ∙ rw (row-at [] u l i (rw p column), near-nothing i, near-is i f c u (rw p next), near-is i f c l (rw q next))
+
+  pub cell-of-one : (h : List ℕ) → length h ≡ n → v ≡ twiceMedian (slice f (f + c) h) → v ≡ getD (rowOf [] h []) i 0
+  unfolding block
+  cell-of-one h p e = e ∙ rw (row-at [] h [] i (rw p column), near-nothing i, near-is i f c h (rw p next), append-nil (slice f (f + c) h))
 
 joined-same : (n : ℕ) (f g : ℕ → List ℕ) → ((i : ℕ) → f i ≡ g i) → joined n f ≡ joined n g
 unfolding joined

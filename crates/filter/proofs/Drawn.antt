@@ -8,11 +8,12 @@ use native.Mathlib.Omega.{arith}
 use borrow.Author.Tests.{lt-ltb, le-ltb}
 use lib.ListN.{length, getD, take, length-take, length-drop, length-map, drop-of-length-le}
 use lib.Seq.{slice, ext-getD, take-nil, drop-nil}
-use Rattle.filter.specs.Median.{near, block, twiceMedian, rowOf, passRow, pass}
+use Rattle.filter.specs.Median.{near, block, twiceMedian, passRow, pass}
 use Rattle.filter.specs.Filter.{halves, quarters, eighths}
 use Rattle.filter.specs.Whiteboard.{before, after, beside, places, levelsAround}
 use Rattle.filter.specs.Asked.{Count}
 use Rattle.filter.proofs.Counts.{rows-times-columns}
+use Rattle.filter.proofs.Blocks.{length-row, row-at}
 use Rattle.filter.proofs.Parts.{row-end}
 use Rattle.filter.proofs.Lists.{length-joined, joined-at, slice-at, map-at, flatMap-append, map-flatMap, length-flatMap, Below, below-map, below-flatMap}
 
@@ -79,10 +80,6 @@ inside w h i j p q =
     (λ b g. below-map w (w * h) _ (beside w i) (below-beside w i p) (λ a f. omega (arith, row-end w h b g)))
 
 -- ---- how long a pass is
-length-row : (above here below : List ℕ) → length (rowOf above here below) ≡ length here
-unfolding rowOf
-length-row above here below = length-joined (length here) 1 (λ i. twiceMedian (block above here below i) ∷ []) (λ i h. refl) ∙ omega arith
-
 module _ (w h : ℕ) (x : List ℕ) (whole : length x ≡ w * h) where
   length-slice-row : (j : ℕ) → j < h → length (slice (j * w) (j * w + w) x) ≡ w
   length-slice-row j q = simp (length-drop, length-take) (omega (arith, row-end w h j q))
@@ -164,12 +161,6 @@ module _ (w h : ℕ) (x : List ℕ) (whole : length x ≡ w * h) (i : ℕ) (colu
   block-drawn : (j : ℕ) → j < h → block (slice (j * w - w) (j * w) x) (slice (j * w) (j * w + w) x) (slice (j * w + w) (j * w + w + w) x) i ≡ levelsAround w h x i j
   unfolding block
   block-drawn j q = rw (above-rows j q, near-row j q, below-rows j q) (sym (levels-by-rows j))
-
-row-at : (above here below : List ℕ) (i : ℕ) → i < length here → getD (rowOf above here below) i 0 ≡ twiceMedian (block above here below i)
-unfolding rowOf
-row-at above here below i p =
-    let e : i * 1 + 0 ≡ i = omega arith in
-    rw e at (joined-at (length here) 1 (λ k. twiceMedian (block above here below k) ∷ []) (λ k h. refl) i 0 p (omega arith))
 
 -- "For each pixel": a pass has, at column i of row j, twice the median of the levels around it
 pub pixel : (w h : ℕ) (x : List ℕ) → length x ≡ w * h → (i j : ℕ) → i < w → j < h → getD (pass w h x) (j * w + i) 0 ≡ twiceMedian (levelsAround w h x i j)

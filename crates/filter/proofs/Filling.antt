@@ -1,31 +1,23 @@
--- Loops that fill a list from the front: its first k elements are what they are to be.
+-- Loops that fill a list from the front: its first k elements are those of the list that it is to become.
 use mathlib.Core.Path.{_≡_, sym, _∙_}
-use mathlib.Core.List.{List, [], _∷_}
+use mathlib.Core.List.{List}
 use Prim.Native.Nat.{ℕ, _+_, _≤_, _<_}
 use native.Mathlib.Numerals.{add-one}
-use native.Mathlib.Omega.{arith}
-use lib.ListN.{length, getD, take, set, length-set}
-use lib.Seq.{take-suc-set, take-suc, take-all}
-use Rattle.filter.specs.Median.{joined}
+use lib.ListN.{length, getD, take, set}
+use lib.Seq.{take-suc-set, take-suc, take-all, take-take}
 
--- one more element is stored
-pub stored-more : (f : ℕ → ℕ) (out : List ℕ) (k v : ℕ) → v ≡ f k → k < length out → take k out ≡ joined k (λ i. f i ∷ []) → take (k + 1) (set out k v) ≡ joined (k + 1) (λ i. f i ∷ [])
-unfolding joined
-stored-more f out k v e h p = rw (add-one, e, take-suc-set out k (f k) h, p)
+-- a row of n whose first i are there, in a loop over its columns up to `end`
+abbrev pub Stored : List ℕ → ℕ → ℕ → List ℕ → ℕ → Type 0
+Stored row n end out i = (1 ≤ i) × (i ≤ end) × (length out ≡ n) × (take i out ≡ take i row)
 
--- one more element is copied
-pub copied-more : (l out : List ℕ) (k : ℕ) → k < length l → k < length out → take k out ≡ take k l → take (k + 1) (set out k (getD l k 0)) ≡ take (k + 1) l
-copied-more l out k hl h p = rw (add-one, take-suc-set out k (getD l k 0) h, take-suc l k 0 hl, p)
+-- one more is there
+pub filled-more : (l out : List ℕ) (k v : ℕ) → v ≡ getD l k 0 → k < length l → k < length out → take k out ≡ take k l → take (k + 1) (set out k v) ≡ take (k + 1) l
+filled-more l out k v e hl h p = rw (add-one, e, take-suc-set out k (getD l k 0) h, take-suc l k 0 hl, p)
 
--- all of it
-pub whole : (l : List ℕ) (n : ℕ) → length l ≤ n → (m : List ℕ) → take n l ≡ m → l ≡ m
-whole l n h m e = sym (take-all n l h) ∙ e
+-- all are there
+pub filled : (l out : List ℕ) (n : ℕ) → length l ≤ n → length out ≤ n → take n out ≡ take n l → out ≡ l
+filled l out n p q e = sym (take-all n out q) ∙ e ∙ take-all n l p
 
--- a row whose first i elements are stored, of a loop from 1 to its last column
-abbrev pub Stored : (ℕ → ℕ) → ℕ → ℕ → List ℕ → ℕ → Type 0
-Stored f n last out i = (1 ≤ i) × (i ≤ last) × (length out ≡ n) × (take i out ≡ joined i (λ k. f k ∷ []))
-
--- the last element is stored
-pub filled : (f : ℕ → ℕ) (out : List ℕ) (n k v : ℕ) → length out ≡ n → n ≡ k + 1 → v ≡ f k → take k out ≡ joined k (λ i. f i ∷ []) → set out k v ≡ joined n (λ i. f i ∷ [])
-filled f out n k v l e is p =
-    whole (set out k v) (k + 1) (rw (length-set out k v) (omega arith)) (joined n (λ i. f i ∷ [])) (rw e (stored-more f out k v is (omega arith) p))
+-- and so are fewer
+pub filled-less : (l out : List ℕ) (m n : ℕ) → m ≤ n → take n out ≡ take n l → take m out ≡ take m l
+filled-less l out m n h e = sym (take-take m n out h) ∙ rw e (take-take m n l h)

@@ -11,7 +11,6 @@ use Rattle.filter.specs.Median.{rowOf, joined, passRow, pass}
 use Rattle.filter.specs.Filter.{AtMost, Side}
 use Rattle.filter.specs.Asked.{Row}
 use Rattle.filter.proofs.Ranges.{most-slice}
-use Rattle.filter.proofs.Filling.{whole}
 use Rattle.filter.proofs.Blocks.{lower-row}
 
 -- a picture has at most 1,048,576 pixels
@@ -96,5 +95,5 @@ last-in w h at x out row post p l is long same front back =
     let start = last-start w h p in
     let here : at ≡ w * h - w = omega arith in
     let all : h - 1 + 1 ≡ h = omega arith in
-    whole (take at out ++ (row ++ post)) (at + w) (omega arith) (joined h (passRow w x))
-    (row-more w (h - 1) at x out row post long (omega arith) (rw here front) back ∙ ap (λ (k : ℕ). joined k (passRow w x)) all)
+    sym (take-all (at + w) (take at out ++ (row ++ post)) (omega arith))
+    ∙ (row-more w (h - 1) at x out row post long (omega arith) (rw here front) back ∙ ap (λ (k : ℕ). joined k (passRow w x)) all)

@@ -1,12 +1,11 @@
 -- `widen` meets its contract: after k turns the first k levels are copied. Assumes nothing.
 use Prim.Native.Nat.{_-_, _≤_}
-use mathlib.Core.Path.{_≡_, refl, _∙_}
+use mathlib.Core.Path.{_≡_, refl}
 use denote.Ref.{now}
-use lib.Seq.{take-all}
 use native.Mathlib.Omega.{arith}
 use borrow.Author.Needs.{needs}
 use lib.ListN.{length, take, length-set}
-use Rattle.filter.proofs.Filling.{copied-more, whole}
+use Rattle.filter.proofs.Filling.{filled-more, filled}
 use Rattle.filter.proofs.passes.widen.Statement.{statement}
 use Rattle.filter.proofs.passes.widen.Tie as tie
 
@@ -40,7 +39,7 @@ loop-less c = omega arith
 loop-again : tie.Need-loop-again Inv-loop μ-loop
 loop-again c =
     let l = c .before .before .loop in
-    (omega arith, simp length-set (l .inv .1), copied-more (now (c .before .before .before .args .levels)) (l .out) (l .k) (omega arith) (omega arith) (l .inv .2))
+    (omega arith, simp length-set (l .inv .1), filled-more (now (c .before .before .before .args .levels)) (l .out) (l .k) _ refl (omega arith) (omega arith) (l .inv .2))
 
 same-length : tie.Need-same-length Inv-loop μ-loop
 same-length c = c .before .loop .inv .1
@@ -49,7 +48,7 @@ returns : tie.Need-returns Inv-loop μ-loop
 returns c =
     let l = c .before .loop in
     let levels = now (c .before .before .args .levels) in
-    whole (l .out) (l .k) (omega arith) levels (l .inv .2 ∙ take-all (l .k) levels (omega arith))
+    filled levels (l .out) (l .k) (omega arith) (omega arith) (l .inv .2)
 
 pub widen-spec : {M : Type 1} → statement M
 widen-spec =

@@ -1,30 +1,33 @@
 -- `one_row` meets its contract: each store is a cell of the row (`cell-is`), and `Stored` says how many are there. Assumes nothing.
-use Prim.Native.Nat.{ℕ, _+_, _-_}
+use Prim.Native.Nat.{ℕ, _+_, _-_, _<_}
 use mathlib.Core.Path.{_≡_, refl, sym, _∙_}
-use mathlib.Core.List.{[]}
+use mathlib.Core.List.{List, []}
 use native.Mathlib.Omega.{arith}
 use denote.Ref.{now}
-use lib.ListN.{length, length-set}
+use lib.ListN.{length, getD, set, length-set}
 use lib.Seq.{slice}
-use Rattle.filter.specs.Median.{twiceMedian, block, joined, rowOf}
-use Rattle.filter.proofs.Filling.{Stored, stored-more, filled}
-use Rattle.filter.proofs.Blocks.{Next, cell-of-one}
+use Rattle.filter.specs.Median.{twiceMedian, rowOf}
+use Rattle.filter.proofs.Filling.{Stored, filled-more, filled}
+use Rattle.filter.proofs.Blocks.{Next, length-row, cell-of-one}
 use Rattle.filter.proofs.rows.one_row.Statement.{statement}
 use Rattle.filter.proofs.rows.one_row.Tie as tie
 
 abbrev Inv-loop : tie.InvT-loop
-Inv-loop here out₀ last i₀ out i = Stored (λ k. twiceMedian (block [] here [] k)) (length here) last out i
+Inv-loop here out₀ last i₀ out i = Stored (rowOf [] here []) (length here) last out i
 
 abbrev μ-loop : tie.MeasureT-loop
 μ-loop here out₀ last i₀ out i = last - i
 
--- the median of column i's block, of what `of_one` gives for the columns next to it
 module _ (s : tie.Start Inv-loop μ-loop) where
-  abbrev cell : ℕ → ℕ
-  cell k = let a = s .args in twiceMedian (block [] (now (a .here)) [] k)
+  abbrev row : List ℕ
+  row = rowOf [] (now (s .args .here)) []
 
-  cell-is : (i f c v : ℕ) → Next (length (now (s .args .here))) i f c → v ≡ twiceMedian (slice f (f + c) (now (s .args .here))) → v ≡ cell i
-  cell-is i f c v next e = let a = s .args in let rows = s .pre .0 in cell-of-one i f c _ v next (now (a .here)) refl e
+  row-long : length row ≡ length (now (s .args .here))
+  row-long = length-row [] (now (s .args .here)) []
+
+  -- what `of_one` gives for the columns next to column i is what stands there in the row
+  cell-is : (i f c v : ℕ) → i < length (now (s .args .here)) → Next (length (now (s .args .here))) i f c → v ≡ twiceMedian (slice f (f + c) (now (s .args .here))) → v ≡ getD row i 0
+  cell-is i f c v column next e = cell-of-one i f c (length (now (s .args .here))) v column next (now (s .args .here)) refl e
 
 sub-last : tie.Need-sub-last Inv-loop μ-loop
 sub-last c = omega arith
@@ -39,12 +42,13 @@ same-length : tie.Need-same-length Inv-loop μ-loop
 same-length c = length-set (now (c .before .before .before .before .args .out)) 0 (c .of-one .result)
 
 returns : tie.Need-returns Inv-loop μ-loop
-unfolding rowOf joined
 returns c =
     let s = c .before .before .before .before in
-    filled (cell s) (now (s .args .out)) (length (now (s .args .here))) 0 (c .of-one .result) (s .pre .1 .0) (omega arith)
-    (cell-is s 0 0 1 (c .of-one .result) (omega arith, omega arith) (c .of-one .ensures))
-    refl
+    let out = now (s .args .out) in
+    let v = c .of-one .result in
+    let long = row-long s in
+    filled (row s) (set out 0 v) 1 (omega arith) (rw (length-set out 0 v) (omega arith))
+    (filled-more (row s) out 0 v (cell-is s 0 0 1 v (omega arith) (omega arith, omega arith) (c .of-one .ensures)) (omega arith) (omega arith) refl)
 
 of-one-requires-2 : tie.Need-of-one-requires-2 Inv-loop μ-loop
 of-one-requires-2 c κs = (c .before .before .before .pre .0, (omega arith, omega arith, omega arith))
@@ -53,13 +57,15 @@ slice-write-out-2 : tie.Need-slice-write-out-2 Inv-loop μ-loop
 slice-write-out-2 c = omega arith
 
 loop-holds : tie.Need-loop-holds Inv-loop μ-loop
-unfolding joined
 loop-holds c =
-    let s = c .before .before .before .before in (
+    let s = c .before .before .before .before in
+    let out = now (s .args .out) in
+    let v = c .of-one2 .result in
+    let long = row-long s in (
       omega arith,
       omega arith,
-      length-set (now (s .args .out)) 0 (c .of-one2 .result) ∙ s .pre .1 .0,
-      stored-more (cell s) (now (s .args .out)) 0 (c .of-one2 .result) (cell-is s 0 0 2 (c .of-one2 .result) (omega arith, omega arith) (c .of-one2 .ensures)) (omega arith) refl,
+      length-set out 0 v ∙ s .pre .1 .0,
+      filled-more (row s) out 0 v (cell-is s 0 0 2 v (omega arith) (omega arith, omega arith) (c .of-one2 .ensures)) (omega arith) (omega arith) refl,
     )
 
 sub-of-one : tie.Need-sub-of-one Inv-loop μ-loop
@@ -84,11 +90,12 @@ loop-again : tie.Need-loop-again Inv-loop μ-loop
 loop-again c =
     let s = c .before .before .before .before .before .before .before in
     let l = c .before .before .loop in
-    let v = c .of-one3 .result in (
+    let v = c .of-one3 .result in
+    let long = row-long s in (
       omega arith,
       omega arith,
       simp length-set (l .inv .2),
-      stored-more (cell s) (l .out) (l .i) v (cell-is s (l .i) (l .i - 1) 3 v (omega arith, omega arith) (c .of-one3 .ensures)) (omega arith) (l .inv .3),
+      filled-more (row s) (l .out) (l .i) v (cell-is s (l .i) (l .i - 1) 3 v (omega arith) (omega arith, omega arith) (c .of-one3 .ensures)) (omega arith) (omega arith) (l .inv .3),
     )
 
 sub-of-one-2 : tie.Need-sub-of-one-2 Inv-loop μ-loop
@@ -107,16 +114,16 @@ same-length-2 : tie.Need-same-length-2 Inv-loop μ-loop
 same-length-2 c = simp length-set (c .before .before .loop .inv .2 ∙ sym (c .before .before .before .before .before .before .before .pre .1 .0))
 
 returns-2 : tie.Need-returns-2 Inv-loop μ-loop
-unfolding rowOf
 returns-2 c =
     let s = c .before .before .before .before .before .before .before in
     let l = c .before .before .loop in
     let n = length (now (s .args .here)) in
     let v = c .of-one4 .result in
+    let long = row-long s in
     let end : l .i ≡ n - 1 = omega arith in
-    filled (cell s) (l .out) n (n - 1) v (l .inv .2) (omega arith)
-    (cell-is s (n - 1) (n - 1 - 1) 2 v (omega arith, omega arith) (c .of-one4 .ensures))
-    (rw end at (l .inv .3))
+    let all : n - 1 + 1 ≡ n = omega arith in
+    filled (row s) (set (l .out) (n - 1) v) n (omega arith) (rw (length-set (l .out) (n - 1) v) (omega arith))
+    (rw all at (filled-more (row s) (l .out) (n - 1) v (cell-is s (n - 1) (n - 1 - 1) 2 v (omega arith) (omega arith, omega arith) (c .of-one4 .ensures)) (omega arith) (omega arith) (rw end at (l .inv .3))))
 
 pub one-row-spec : {M : Type 1} → statement M
 one-row-spec =

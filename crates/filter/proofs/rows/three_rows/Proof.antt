@@ -1,129 +1,119 @@
--- `three_rows` meets its contract: each store is a cell of the row (`cell-is`), and `Stored` says how many are there. Assumes nothing.
-use Prim.Native.Nat.{ℕ, _+_, _-_}
+-- `three_rows` meets its contract: the first column is there, then the inner ones, then the last. Assumes nothing.
+use Prim.Native.Nat.{ℕ, _+_, _-_, _<_}
 use mathlib.Core.Path.{_≡_, refl, sym, _∙_}
-use mathlib.Core.List.{_++_}
+use mathlib.Core.List.{List, _++_}
 use native.Mathlib.Omega.{arith}
 use denote.Ref.{now}
-use lib.ListN.{length, length-set}
+use lib.ListN.{length, getD, set, length-set}
 use lib.Seq.{slice}
-use Rattle.filter.specs.Median.{twiceMedian, block, joined, rowOf}
-use Rattle.filter.proofs.Filling.{Stored, stored-more, filled}
-use Rattle.filter.proofs.Blocks.{Next, cell-of-three}
+use Rattle.filter.specs.Median.{twiceMedian, rowOf}
+use Rattle.filter.proofs.Filling.{filled-more, filled}
+use Rattle.filter.proofs.Blocks.{Next, length-row, cell-of-three}
 use Rattle.filter.proofs.rows.three_rows.Statement.{statement}
 use Rattle.filter.proofs.rows.three_rows.Tie as tie
 
-abbrev Inv-loop : tie.InvT-loop
-Inv-loop above here below out₀ last i₀ out i = Stored (λ k. twiceMedian (block above here below k)) (length here) last out i
+module _ (s : tie.Start) where
+  abbrev row : List ℕ
+  row = rowOf (now (s .args .above)) (now (s .args .here)) (now (s .args .below))
 
-abbrev μ-loop : tie.MeasureT-loop
-μ-loop above here below out₀ last i₀ out i = last - i
+  row-long : length row ≡ length (now (s .args .here))
+  row-long = length-row (now (s .args .above)) (now (s .args .here)) (now (s .args .below))
 
--- the median of column i's block, of what `of_three` gives for the columns next to it
-module _ (s : tie.Start Inv-loop μ-loop) where
-  abbrev cell : ℕ → ℕ
-  cell k = let a = s .args in twiceMedian (block (now (a .above)) (now (a .here)) (now (a .below)) k)
+  -- what `of_three` gives for the columns next to column i is what stands there in the row
+  cell-is : (i f c v : ℕ) → i < length (now (s .args .here)) → Next (length (now (s .args .here))) i f c
+      → v ≡ twiceMedian (slice f (f + c) (now (s .args .above)) ++ slice f (f + c) (now (s .args .here)) ++ slice f (f + c) (now (s .args .below)))
+      → v ≡ getD row i 0
+  cell-is i f c v column next e =
+      let rows = s .pre .0 in
+      cell-of-three i f c (length (now (s .args .here))) v column next (now (s .args .above)) (now (s .args .here)) (now (s .args .below)) (rows .0 .0) refl (rows .2 .0) e
 
-  cell-is : (i f c v : ℕ) → Next (length (now (s .args .here))) i f c → v ≡ twiceMedian (slice f (f + c) (now (s .args .above)) ++ slice f (f + c) (now (s .args .here)) ++ slice f (f + c) (now (s .args .below))) → v ≡ cell i
-  cell-is i f c v next e = let a = s .args in let rows = s .pre .0 in cell-of-three i f c _ v next (now (a .above)) (now (a .here)) (now (a .below)) (rows .0 .0) refl (rows .2 .0) e
-
-sub-last : tie.Need-sub-last Inv-loop μ-loop
+sub-last : tie.Need-sub-last
 sub-last c = omega arith
 
-of-three-requires : tie.Need-of-three-requires Inv-loop μ-loop
+of-three-requires : tie.Need-of-three-requires
 of-three-requires c κs = (c .before .before .before .before .before .pre .0, (omega arith, omega arith, omega arith))
 
-slice-write-out : tie.Need-slice-write-out Inv-loop μ-loop
+slice-write-out : tie.Need-slice-write-out
 slice-write-out c = omega arith
 
-same-length : tie.Need-same-length Inv-loop μ-loop
+same-length : tie.Need-same-length
 same-length c = length-set (now (c .before .before .before .before .before .before .args .out)) 0 (c .of-three .result)
 
-returns : tie.Need-returns Inv-loop μ-loop
-unfolding rowOf joined
+returns : tie.Need-returns
 returns c =
     let s = c .before .before .before .before .before .before in
-    filled (cell s) (now (s .args .out)) (length (now (s .args .here))) 0 (c .of-three .result) (s .pre .1 .0) (omega arith)
-    (cell-is s 0 0 1 (c .of-three .result) (omega arith, omega arith) (c .of-three .ensures))
-    refl
+    let out = now (s .args .out) in
+    let v = c .of-three .result in
+    let long = row-long s in
+    filled (row s) (set out 0 v) 1 (omega arith) (rw (length-set out 0 v) (omega arith))
+    (filled-more (row s) out 0 v (cell-is s 0 0 1 v (omega arith) (omega arith, omega arith) (c .of-three .ensures)) (omega arith) (omega arith) refl)
 
-of-three-requires-2 : tie.Need-of-three-requires-2 Inv-loop μ-loop
+of-three-requires-2 : tie.Need-of-three-requires-2
 of-three-requires-2 c κs = (c .before .before .before .before .before .pre .0, (omega arith, omega arith, omega arith))
 
-slice-write-out-2 : tie.Need-slice-write-out-2 Inv-loop μ-loop
+slice-write-out-2 : tie.Need-slice-write-out-2
 slice-write-out-2 c = omega arith
 
-loop-holds : tie.Need-loop-holds Inv-loop μ-loop
-unfolding joined
-loop-holds c =
-    let s = c .before .before .before .before .before .before in (
-      omega arith,
-      omega arith,
-      length-set (now (s .args .out)) 0 (c .of-three2 .result) ∙ s .pre .1 .0,
-      stored-more (cell s) (now (s .args .out)) 0 (c .of-three2 .result) (cell-is s 0 0 2 (c .of-three2 .result) (omega arith, omega arith) (c .of-three2 .ensures)) (omega arith) refl,
+inner-columns-requires : tie.Need-inner-columns-requires
+inner-columns-requires c κs =
+    let first = c .before in
+    let s = first .before .before .before .before .before .before in
+    let out = now (s .args .out) in
+    let v = first .of-three2 .result in
+    let long = row-long s in (
+      s .pre .0,
+      (
+        length-set out 0 v ∙ s .pre .1 .0,
+        omega arith,
+        omega arith,
+        filled-more (row s) out 0 v (cell-is s 0 0 2 v (omega arith) (omega arith, omega arith) (first .of-three2 .ensures)) (omega arith) (omega arith) refl,
+      ),
     )
 
-sub-of-three : tie.Need-sub-of-three Inv-loop μ-loop
+-- once the inner columns are there
+module _ (c : tie.After-inner-columns) where
+  abbrev began : tie.Start
+  began = c .before .before .before .before .before .before .before .before
+
+  abbrev inner : List ℕ
+  inner = c .inner-columns .last .1 .1 .1 .1 .0
+
+  inner-long : length inner ≡ length (now (began .args .here))
+  inner-long = c .inner-columns .kept .1 .1 .1 .1 .0 ∙ length-set (now (began .args .out)) 0 (c .before .before .of-three2 .result) ∙ began .pre .1 .0
+
+sub-of-three : tie.Need-sub-of-three
 sub-of-three c = omega arith
 
-of-three-requires-3 : tie.Need-of-three-requires-3 Inv-loop μ-loop
-of-three-requires-3 c κs = (c .before .before .before .before .before .before .before .before .pre .0, (omega arith, omega arith, omega arith))
+of-three-requires-3 : tie.Need-of-three-requires-3
+of-three-requires-3 c κs = (c .before .before .before .before .before .before .before .before .before .before .pre .0, (omega arith, omega arith, omega arith))
 
-mul-out : tie.Need-mul-out Inv-loop μ-loop
+mul-out : tie.Need-mul-out
 mul-out c = omega arith
 
-slice-write-out-3 : tie.Need-slice-write-out-3 Inv-loop μ-loop
-slice-write-out-3 c = omega arith
+slice-write-out-3 : tie.Need-slice-write-out-3
+slice-write-out-3 c = omega (arith, inner-long (c .before .before .before), began (c .before .before .before) .pre .1 .1)
 
-add-i : tie.Need-add-i Inv-loop μ-loop
-add-i c = omega arith
+same-length-2 : tie.Need-same-length-2
+same-length-2 c =
+    let i = c .before .before .before in
+    simp length-set (inner-long i ∙ sym (began i .pre .1 .0))
 
-loop-less : tie.Need-loop-less Inv-loop μ-loop
-loop-less c = omega arith
-
-loop-again : tie.Need-loop-again Inv-loop μ-loop
-loop-again c =
-    let s = c .before .before .before .before .before .before .before .before .before in
-    let l = c .before .before .loop in
-    let v = c .of-three3 .result in (
-      omega arith,
-      omega arith,
-      simp length-set (l .inv .2),
-      stored-more (cell s) (l .out) (l .i) v (cell-is s (l .i) (l .i - 1) 3 v (omega arith, omega arith) (c .of-three3 .ensures)) (omega arith) (l .inv .3),
-    )
-
-sub-of-three-2 : tie.Need-sub-of-three-2 Inv-loop μ-loop
-sub-of-three-2 c = omega arith
-
-of-three-requires-4 : tie.Need-of-three-requires-4 Inv-loop μ-loop
-of-three-requires-4 c κs = (c .before .before .before .before .before .before .before .before .pre .0, (omega arith, omega arith, omega arith))
-
-mul-out-2 : tie.Need-mul-out-2 Inv-loop μ-loop
-mul-out-2 c = omega arith
-
-slice-write-out-4 : tie.Need-slice-write-out-4 Inv-loop μ-loop
-slice-write-out-4 c = omega arith
-
-same-length-2 : tie.Need-same-length-2 Inv-loop μ-loop
-same-length-2 c = simp length-set (c .before .before .loop .inv .2 ∙ sym (c .before .before .before .before .before .before .before .before .before .pre .1 .0))
-
-returns-2 : tie.Need-returns-2 Inv-loop μ-loop
-unfolding rowOf
+returns-2 : tie.Need-returns-2
 returns-2 c =
-    let s = c .before .before .before .before .before .before .before .before .before in
-    let l = c .before .before .loop in
+    let i = c .before .before .before in
+    let s = began i in
     let n = length (now (s .args .here)) in
-    let v = c .of-three4 .result in
-    let end : l .i ≡ n - 1 = omega arith in
-    filled (cell s) (l .out) n (n - 1) v (l .inv .2) (omega arith)
-    (cell-is s (n - 1) (n - 1 - 1) 2 v (omega arith, omega arith) (c .of-three4 .ensures))
-    (rw end at (l .inv .3))
+    let v = c .of-three3 .result in
+    let long = row-long s in
+    let some = s .pre .1 .1 in
+    let all : n - 1 + 1 ≡ n = omega arith in
+    filled (row s) (set (inner i) (n - 1) v) n (omega arith) (rw (length-set (inner i) (n - 1) v) (omega (arith, inner-long i)))
+    (rw all at (filled-more (row s) (inner i) (n - 1) v (cell-is s (n - 1) (n - 1 - 1) 2 v (omega arith) (omega arith, omega arith) (c .of-three3 .ensures)) (omega arith) (omega (arith, inner-long i)) (i .inner-columns .ensures)))
 
 pub three-rows-spec : {M : Type 1} → statement M
 three-rows-spec =
     tie.close
     (tie.spec
-    Inv-loop
-    μ-loop
     sub-last
     of-three-requires
     slice-write-out
@@ -131,17 +121,10 @@ three-rows-spec =
     returns
     of-three-requires-2
     slice-write-out-2
-    loop-holds
+    inner-columns-requires
     sub-of-three
     of-three-requires-3
     mul-out
     slice-write-out-3
-    add-i
-    loop-less
-    loop-again
-    sub-of-three-2
-    of-three-requires-4
-    mul-out-2
-    slice-write-out-4
     same-length-2
     returns-2)
