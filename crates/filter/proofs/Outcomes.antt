@@ -1,12 +1,13 @@
 -- What the filter may answer and leave: the sizes decide the number, and the number decides the rest.
 use mathlib.Core.Path.{_≡_, refl, sym, ap, _∙_}
 use mathlib.Core.List.{List, _++_}
-use mathlib.Core.Logic.{inl, inr}
+use mathlib.Core.Logic.{_⊎_, inl, inr}
 use Prim.Native.Nat.{ℕ, _*_, _≤_}
 use native.Mathlib.Omega.{arith}
+use lib.Dec.{lit≤}
 use lib.ListN.{length, drop}
 use Rattle.numbers.proofs.Refusals.{goes-on, carried, together}
-use Rattle.filter.specs.Filter.{quarters, eighths, AtMost, Side, Sized, Outcome, outcome, FilterIs}
+use Rattle.filter.specs.Filter.{quarters, eighths, AtMost, Side, Sized, Outcome, outcome, Filtered, FilterIs}
 use Rattle.filter.proofs.Ranges.{most-eighths}
 use Rattle.filter.proofs.Drawn.{length-eighths}
 
@@ -17,13 +18,18 @@ pub record Fits (levels w h output work : ℕ) : Type 0 where
   pub long-output : w * h ≤ output
   pub long-work : w * h ≤ work
 
--- where the number is 0, all four are passed
-pub fits : {levels w h output work r : ℕ} → r ≡ 0 → Sized levels w h output work (λ n. r ≡ n) (r ≡ 0) → Fits levels w h output work
-fits z (inl a) = absurd (let e = a .1 in omega arith)
-fits z (inr (s, inl a)) = absurd (let e = a .1 in omega arith)
-fits z (inr (s, inr (l, inl a))) = absurd (let e = a .1 in omega arith)
-fits z (inr (s, inr (l, inr (o, inl a)))) = absurd (let e = a .1 in omega arith)
-fits z (inr (s, inr (l, inr (o, inr (k, d))))) = record { sides = s; all-levels = l; long-output = o; long-work = k }
+-- one of the four refuses, or all are passed
+pub settled : (levels w h output work : ℕ) (refused : ℕ → Type 0) (past : Type 0) → Sized levels w h output work refused past → ((n : ℕ) × (1 ≤ n) × refused n) ⊎ (Fits levels w h output work × past)
+settled levels w h output work refused past (inl a) = inl (1, lit≤ tt, a .1)
+settled levels w h output work refused past (inr (s, inl a)) = inl (2, lit≤ tt, a .1)
+settled levels w h output work refused past (inr (s, inr (l, inl a))) = inl (3, lit≤ tt, a .1)
+settled levels w h output work refused past (inr (s, inr (l, inr (o, inl a)))) = inl (4, lit≤ tt, a .1)
+settled levels w h output work refused past (inr (s, inr (l, inr (o, inr (k, d))))) = inr (record { sides = s; all-levels = l; long-output = o; long-work = k }, d)
+
+-- where the number is 0, all are
+pub fits : (levels w h output work r : ℕ) → r ≡ 0 → Sized levels w h output work (λ n. r ≡ n) (r ≡ 0) → Fits levels w h output work
+fits levels w h output work r z d =
+    elim (settled levels w h output work (λ n. r ≡ n) (r ≡ 0) d) [ inl e ↦ absurd (let some = e .1 in let is = e .2 in let no : ⊥ = omega arith in no) | inr f ↦ f .0 ]
 
 module _ (levels : List ℕ) (w h : ℕ) (output work : List ℕ) where
   -- a refused call: the number, and nothing written
@@ -45,6 +51,22 @@ module _ (levels : List ℕ) (w h : ℕ) (output work : List ℕ) where
         long = length-eighths w h levels (f .all-levels);
         most = most-eighths w h levels small;
       }))))
+
+  -- what a caller reads off the number: 0 says that the sizes fit and the picture is filtered
+  pub when-done : (r : Outcome) → r .number ≡ 0 → FilterIs levels w h output work r → Fits (length levels) w h (length output) (length work) × Filtered levels w h output work r
+  when-done r z d =
+      elim (settled (length levels) w h (length output) (length work) (λ n. r ≡ outcome n output work) (Filtered levels w h output work r) d) [
+        | inl e ↦ absurd (let some = e .1 in let is = ap (λ (o : Outcome). o .number) (e .2) in let no : ⊥ = omega arith in no)
+        | inr f ↦ f
+      ]
+
+  -- and any other that nothing was written
+  pub when-refused : (r : Outcome) → (r .number ≡ 0 → ⊥) → FilterIs levels w h output work r → (r .output ≡ output) × (r .work ≡ work)
+  when-refused r some d =
+      elim (settled (length levels) w h (length output) (length work) (λ n. r ≡ outcome n output work) (Filtered levels w h output work r) d) [
+        | inl e ↦ (ap (λ (o : Outcome). o .output) (e .2), ap (λ (o : Outcome). o .work) (e .2))
+        | inr f ↦ absurd (some (f .1 .number))
+      ]
 
   -- the answer is determined: two outcomes that the promise permits are one
   same : (a b : Outcome) → a .number ≡ b .number → a .output ≡ b .output → a .work ≡ b .work → a ≡ b

@@ -17,7 +17,7 @@ module _ (c : tie.Else1) where
   S = c .before .before .before .before .before
 
   fit : Fits (length (now (S .args .levels))) (S .args .width) (S .args .height) (length (now (S .args .output))) (length (now (S .args .work)))
-  fit = fits (omega arith) (c .before .sizes .ensures)
+  fit = fits _ _ _ _ _ _ (omega arith) (c .before .sizes .ensures)
 
   few : S .args .width * S .args .height ≤ 1048576
   few = pixels (S .args .width) (S .args .height) (fit .sides)
