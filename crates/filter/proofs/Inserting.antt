@@ -6,8 +6,10 @@ use native.Mathlib.Nat.{sub-self, sub-zero, add-zero}
 use native.Mathlib.Numerals.{add-one}
 use native.Mathlib.Omega.{arith}
 use lib.ListN.{length, getD, take, drop, set}
-use lib.Seq.{slice, slice-empty, take-suc, drop-cons, take-suc-set, drop-set-lt, drop-append-le, length-take-le}
+use lib.Seq.{slice, getD-take, getD-drop, slice-empty, take-suc, drop-cons, take-suc-set, drop-set-lt, drop-append-le, length-take-le}
 use Rattle.filter.specs.Median.{insert, insertAll}
+use Rattle.filter.specs.Filter.{AtMost}
+use Rattle.filter.proofs.Ranges.{append-most, most-slice, most-insert, insert-most, most-insertAll}
 
 -- the first k are in place, c is carried on, and the rest up to n is still to be passed
 abbrev pub passed : List ℕ → ℕ → ℕ → ℕ → List ℕ
@@ -25,6 +27,14 @@ turn t n k c m h e = rw (e, drop-cons t k 0 h, take-suc-set t k _ h, drop-set-lt
 pub passed-more : (t : List ℕ) (n k c : ℕ) → k < n → n ≤ length t
     → passed t n k c ≡ passed (set t k (min c (getD t k 0))) n (k + 1) (max c (getD t k 0))
 passed-more t n k c h l = turn t n k c (n - (k + 1)) (omega arith) (omega arith) ∙ rw (add-one k)
+
+-- what is carried, and the next to be passed, are among what was given
+pub passed-small : (b : ℕ) (t l : List ℕ) (n k c v : ℕ) → k < n → AtMost b l → v ≤ b → passed t n k c ≡ insert v l → (c ≤ b) × (getD t k 0 ≤ b)
+passed-small b t l n k c v h p q e =
+    let all : AtMost b (passed t n k c) = rw e (most-insert b v l q p) in
+    let rest = insert-most b c (take (n - k) (drop k t)) (append-most b (take k t) (insert c (take (n - k) (drop k t))) all) in
+    let next = getD-take (n - k) (drop k t) 0 0 (omega arith) ∙ getD-drop k t 0 0 ∙ ap (λ (m : ℕ). getD t m 0) (add-zero k) in
+    (rest .0, rw (← next) (rest .1 0))
 
 pub passed-all : (t : List ℕ) (n c : ℕ) → n < length t → take (n + 1) (set t n c) ≡ passed t n n c
 unfolding insert
@@ -56,3 +66,7 @@ gathered-more row t₀ t t' n f k h e put =
     let next : f + (k + 1) ≡ suc (f + k) = omega arith in
     let more : n + (k + 1) ≡ n + k + 1 = omega arith in
     rw (next, more, slice-more f k row h, insertAll-append (take n t₀) (slice f (f + k) row) (getD row (f + k) 0 ∷ []), put, e)
+
+-- and all of them are small, if those before and the row's are
+pub gathered-small : (b : ℕ) (row t₀ t : List ℕ) (n f k : ℕ) → AtMost b (take n t₀) → AtMost b row → Gathered row t₀ t n f k → AtMost b (take (n + k) t)
+gathered-small b row t₀ t n f k p q g = rw g (most-insertAll b (take n t₀) (slice f (f + k) row) p (most-slice b f (f + k) row q))

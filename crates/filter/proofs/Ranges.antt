@@ -4,7 +4,7 @@ use Prim.Native.Nat.{ℕ, zero, suc, _+_, _-_, _*_, _/_, _≤_, zero-le, max}
 use mathlib.Core.Path.{_≡_}
 use native.Mathlib.Nat.{le-trans}
 use native.Mathlib.Omega.{arith}
-use lib.ListN.{length, take, drop}
+use lib.ListN.{length, replicate, take, drop}
 use lib.Seq.{slice}
 use Rattle.filter.specs.Median.{near, insert, insertAll, sorted, twiceMedian, block, joined, rowOf, passRow, pass}
 use Rattle.filter.specs.Filter.{AtMost, Side, halves, quarters, eighths}
@@ -21,6 +21,17 @@ most-append b [] m p q k = q k
 most-append b (x ∷ l) m p q zero = p zero
 most-append b (x ∷ l) m p q (suc k) = most-append b l m (λ i. p (suc i)) q k
 
+-- and of the second of them
+pub append-most : (b : ℕ) (l m : List ℕ) → AtMost b (l ++ m) → AtMost b m
+append-most b [] m p k = p k
+append-most b (x ∷ l) m p k = append-most b l m (λ i. p (suc i)) k
+
+-- of zeros, as a block's places are before its levels are put in
+pub most-zeros : (b n : ℕ) → AtMost b (replicate n 0)
+most-zeros b zero k = zero-le
+most-zeros b (suc n) zero = zero-le
+most-zeros b (suc n) (suc k) = most-zeros b n k
+
 most-take : (b n : ℕ) (l : List ℕ) → AtMost b l → AtMost b (take n l)
 most-take b zero l p k = zero-le
 most-take b (suc n) [] p k = zero-le
@@ -36,11 +47,21 @@ most-drop b (suc n) (x ∷ l) p k = most-drop b n l (λ i. p (suc i)) k
 pub most-slice : (b f t : ℕ) (l : List ℕ) → AtMost b l → AtMost b (slice f t l)
 most-slice b f t l p = most-drop b f (take t l) (most-take b t l p)
 
-most-insert : (b v : ℕ) (l : List ℕ) → v ≤ b → AtMost b l → AtMost b (insert v l)
+-- a level put into its place
+pub most-insert : (b v : ℕ) (l : List ℕ) → v ≤ b → AtMost b l → AtMost b (insert v l)
 unfolding insert
 most-insert b v [] h p k = most-cons b v [] h p k
 most-insert b v (x ∷ l) h p zero = omega (arith, p zero)
 most-insert b v (x ∷ l) h p (suc k) = most-insert b (max v x) l (omega (arith, p zero)) (λ i. p (suc i)) k
+
+-- what was put in, and what it was put into, is no larger than the largest there
+pub insert-most : (b v : ℕ) (l : List ℕ) → AtMost b (insert v l) → (v ≤ b) × AtMost b l
+unfolding insert
+insert-most b v [] p = (p zero, λ k. zero-le)
+insert-most b v (x ∷ l) p =
+    let q = insert-most b (max v x) l (λ k. p (suc k)) in
+    let both = q .0 in
+    (omega arith, most-cons b x l (omega arith) (q .1))
 
 -- levels put into levels: the bound holds for both, so for all
 pub most-insertAll : (b : ℕ) (d l : List ℕ) → AtMost b d → AtMost b l → AtMost b (insertAll d l)

@@ -55,6 +55,7 @@ pub(crate) fn of_three(
 // Some columns of a row, put among the first n of t.
 fn gather(t: &mut [u16], n: usize, row: &[u16], first: usize, count: usize)
     requires { ⌜ (n + count ≤ length (now t)) × (first + count ≤ length (now row)) ⌝ }
+    requires { ⌜ AtMost 1020 (take n (now t)) × AtMost 1020 (now row) ⌝ }
     ensures { λ _. ⌜ take (n + count) (now (t .exit)) ≡ insertAll (take n (now (t .entry))) (slice first (first + count) (now (row .entry))) ⌝ }
 {
     let mut k = 0;
@@ -66,7 +67,7 @@ fn gather(t: &mut [u16], n: usize, row: &[u16], first: usize, count: usize)
 
 // v put among the first n of t, which ascend: the smaller stays, the larger is carried on.
 fn put(t: &mut [u16], n: usize, v: u16)
-    requires { ⌜ n < length (now t) ⌝ }
+    requires { ⌜ (n < length (now t)) × AtMost 1020 (take n (now t)) × (v ≤ 1020) ⌝ }
     ensures { λ _. ⌜ take (n + 1) (now (t .exit)) ≡ insert v (take n (now (t .entry))) ⌝ }
 {
     let mut carried = v;
@@ -80,16 +81,20 @@ fn put(t: &mut [u16], n: usize, v: u16)
     t[n] = carried;
 }
 
+// The smaller and the larger of two values, compared as signed numbers: for those the processor has an
+// instruction, and a value is far below 32,768.
 fn smaller(a: u16, b: u16) -> u16
+    requires { ⌜ (a ≤ 1020) × (b ≤ 1020) ⌝ }
     ensures { λ r. ⌜ r ≡ min a b ⌝ }
 {
-    if a < b { a } else { b }
+    if (a as i16) < (b as i16) { a } else { b }
 }
 
 fn larger(a: u16, b: u16) -> u16
+    requires { ⌜ (a ≤ 1020) × (b ≤ 1020) ⌝ }
     ensures { λ r. ⌜ r ≡ max a b ⌝ }
 {
-    if a < b { b } else { a }
+    if (a as i16) < (b as i16) { b } else { a }
 }
 
 // The two middle ranks of the first n of t, which ascend, added.

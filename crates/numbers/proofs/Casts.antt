@@ -7,7 +7,7 @@ use native.Mathlib.Omega.{arith}
 use lib.IntN.{ℤ, pos, negsuc, natAbs, subℕ, _+ℤ_, _-ℤ_}
 use lib.Dec.{T}
 use lib.Signed.{ltZ, nonNeg}
-use borrow.Author.Tests.{ltb-true}
+use borrow.Author.Tests.{ltb-true, ltb-false}
 use mir.Syntax.{Width, w64}
 use mir.Val.{hbits, SFits, Fits, toZ, ofZ}
 use mir.ValLaws.{toZ-ofZ, toZ-pos}
@@ -57,3 +57,11 @@ module _ (w : Width) (p n : ℕ) (hp : p < 2 ^ hbits w) (hn : n < 2 ^ hbits w) w
 
   pub diff-gives : toZ w (ofZ w (toZ w p -ℤ toZ w n)) ≡ subℕ p n
   diff-gives = toZ-ofZ w (toZ w p -ℤ toZ w n) diff-fits ∙ made
+
+-- two numbers of the lower half of a width are compared alike as signed ones
+module _ (w : Width) (a b : ℕ) (ha : a < 2 ^ hbits w) (hb : b < 2 ^ hbits w) where
+  pub signed-less : ltZ (toZ w a) (toZ w b) ≡ true → a < b
+  signed-less e = ltb-true a b (rw (toZ-pos w a ha, toZ-pos w b hb) at e)
+
+  pub signed-not-less : ltZ (toZ w a) (toZ w b) ≡ false → b ≤ a
+  signed-not-less e = ltb-false a b (rw (toZ-pos w a ha, toZ-pos w b hb) at e)

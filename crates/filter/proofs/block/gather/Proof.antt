@@ -1,11 +1,11 @@
 -- `gather` meets its contract: after k turns k of the row's columns are put in (`Gathered`). Assumes nothing.
-use Prim.Native.Nat.{_-_, _≤_}
+use Prim.Native.Nat.{_+_, _-_, _≤_}
 use mathlib.Core.Path.{_≡_, refl, _∙_}
 use denote.Ref.{now}
 use native.Mathlib.Omega.{arith}
 use borrow.Author.Needs.{needs}
 use lib.ListN.{length}
-use Rattle.filter.proofs.Inserting.{Gathered, gathered-none, gathered-more}
+use Rattle.filter.proofs.Inserting.{Gathered, gathered-none, gathered-more, gathered-small}
 use Rattle.filter.proofs.block.gather.Statement.{statement}
 use Rattle.filter.proofs.block.gather.Tie as tie
 
@@ -31,7 +31,14 @@ shared-slice-read-put : tie.Need-shared-slice-read-put Inv-loop μ-loop
 shared-slice-read-put c = omega arith
 
 put-requires : tie.Need-put-requires Inv-loop μ-loop
-put-requires c κs = omega arith
+put-requires c κs =
+    let l = c .before .before .before .loop in
+    let s = c .before .before .before .before .before .before in
+    let a = s .args in (
+      omega arith,
+      gathered-small 1020 (now (a .row)) (now (a .t)) (l .t) (a .n) (a .first) (l .k) (s .pre .1 .0) (s .pre .1 .1) (l .inv .2),
+      s .pre .1 .1 (a .first + l .k),
+    )
 
 add-k : tie.Need-add-k Inv-loop μ-loop
 add-k c = omega arith

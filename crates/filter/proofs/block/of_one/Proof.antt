@@ -4,6 +4,7 @@ use native.Mathlib.Omega.{arith}
 use borrow.Author.Needs.{needs}
 use denote.Ref.{now}
 use lib.Seq.{slice}
+use Rattle.filter.proofs.Ranges.{most-zeros}
 use Rattle.filter.proofs.Counts.{columns-times-rows}
 use Rattle.filter.proofs.Blocks.{Holds, holds-first, held-small, held-median}
 use Rattle.filter.proofs.block.of_one.Statement.{statement}
@@ -13,7 +14,7 @@ slice-aggregate-gather : tie.Need-slice-aggregate-gather
 slice-aggregate-gather c = search needs
 
 gather-requires : tie.Need-gather-requires
-gather-requires c κs = search needs
+gather-requires c κs = let s = c .before .before in ((omega arith, s .pre .1 .2), (most-zeros 1020 0, s .pre .0 .1))
 
 slice-aggregate-middle : tie.Need-slice-aggregate-middle
 slice-aggregate-middle c = search needs

@@ -5,6 +5,7 @@ use native.Mathlib.Omega.{arith}
 use borrow.Author.Needs.{needs}
 use denote.Ref.{now}
 use lib.Seq.{slice}
+use Rattle.filter.proofs.Ranges.{most-zeros}
 use Rattle.filter.proofs.Counts.{columns-times-rows}
 use Rattle.filter.proofs.Blocks.{Holds, holds-first, holds-more, held-small, held-median}
 use Rattle.filter.proofs.block.of_three.Statement.{statement}
@@ -14,13 +15,36 @@ slice-aggregate-gather : tie.Need-slice-aggregate-gather
 slice-aggregate-gather c = search needs
 
 gather-requires : tie.Need-gather-requires
-gather-requires c κs = (omega arith, omega arith)
+gather-requires c κs = let s = c .before .before .before .before in ((omega arith, omega (arith, s .pre .0 .0 .0, s .pre .1 .2)), (most-zeros 1020 0, s .pre .0 .0 .1))
+
+-- once the row above is in
+module _ (c : tie.After-gather) where
+  abbrev started : tie.Start
+  started = c .before .before .before .before .before
+
+  held-one : Holds (started .args .count) (c .gather .last .0) (slice (started .args .first) (started .args .first + started .args .count) (now (started .args .above)))
+  held-one = holds-first _ _ _ _ _ (started .pre .0 .0) (started .pre .1 .2) (c .gather .ensures)
 
 slice-aggregate-gather-2 : tie.Need-slice-aggregate-gather-2
 slice-aggregate-gather-2 c = search needs
 
 gather-requires-2 : tie.Need-gather-requires-2
-gather-requires-2 c κs = (omega arith, omega arith)
+gather-requires-2 c κs =
+    let g = c .before .before in
+    let s = started g in
+    ((omega arith, s .pre .1 .2), (held-small _ _ _ (held-one g), s .pre .0 .1 .1))
+
+-- and the row itself
+module _ (c : tie.After-gather2) where
+  abbrev began : tie.Start
+  began = started (c .before .before .before)
+
+  held-two :
+      Holds
+      (began .args .count + began .args .count)
+      (c .gather2 .last .0)
+      (slice (began .args .first) (began .args .first + began .args .count) (now (began .args .above)) ++ slice (began .args .first) (began .args .first + began .args .count) (now (began .args .here)))
+  held-two = holds-more _ _ _ _ _ _ _ _ (held-one (c .before .before .before)) (began .pre .0 .1) (began .pre .1 .2) (c .gather2 .ensures)
 
 slice-aggregate-gather-3 : tie.Need-slice-aggregate-gather-3
 slice-aggregate-gather-3 c = search needs
@@ -29,7 +53,10 @@ add-gather : tie.Need-add-gather
 add-gather c = search needs
 
 gather-requires-3 : tie.Need-gather-requires-3
-gather-requires-3 c κs = (omega arith, omega arith)
+gather-requires-3 c κs =
+    let g = c .before .before in
+    let s = began g in
+    ((omega arith, omega (arith, s .pre .0 .2 .0, s .pre .1 .2)), (held-small _ _ _ (held-two g), s .pre .0 .2 .1))
 
 slice-aggregate-middle : tie.Need-slice-aggregate-middle
 slice-aggregate-middle c = search needs
@@ -40,10 +67,10 @@ add-middle c = search needs
 add-middle-2 : tie.Need-add-middle-2
 add-middle-2 c = search needs
 
--- once the rows are in
+-- and the row below
 module _ (c : tie.After-gather3) where
   abbrev S : tie.Start
-  S = c .before .before .before .before .before .before .before .before .before .before .before
+  S = began (c .before .before .before)
 
   abbrev columns : List ℕ → List ℕ
   columns row = slice (S .args .first) (S .args .first + S .args .count) row
@@ -53,12 +80,7 @@ module _ (c : tie.After-gather3) where
       (S .args .count + S .args .count + S .args .count)
       (c .gather3 .last .0)
       (columns (now (S .args .above)) ++ columns (now (S .args .here)) ++ columns (now (S .args .below)))
-  held =
-      let rows = S .pre .0 in
-      let inside = S .pre .1 .2 in
-      let one = holds-first _ _ _ _ _ (rows .0) inside (c .before .before .before .before .before .before .gather .ensures) in
-      let two = holds-more _ _ _ _ _ _ _ _ one (rows .1) inside (c .before .before .before .gather2 .ensures) in
-      holds-more _ _ _ _ _ _ _ _ two (rows .2) inside (c .gather3 .ensures)
+  held = holds-more _ _ _ _ _ _ _ _ (held-two (c .before .before .before)) (S .pre .0 .2) (S .pre .1 .2) (c .gather3 .ensures)
 
 middle-requires : tie.Need-middle-requires
 middle-requires c κs =

@@ -5,6 +5,7 @@ use native.Mathlib.Omega.{arith}
 use borrow.Author.Needs.{needs}
 use denote.Ref.{now}
 use lib.Seq.{slice}
+use Rattle.filter.proofs.Ranges.{most-zeros}
 use Rattle.filter.proofs.Counts.{columns-times-rows}
 use Rattle.filter.proofs.Blocks.{Holds, holds-first, holds-more, held-small, held-median}
 use Rattle.filter.proofs.block.of_two.Statement.{statement}
@@ -14,13 +15,24 @@ slice-aggregate-gather : tie.Need-slice-aggregate-gather
 slice-aggregate-gather c = search needs
 
 gather-requires : tie.Need-gather-requires
-gather-requires c κs = search needs
+gather-requires c κs = let s = c .before .before .before in ((omega arith, s .pre .1 .2), (most-zeros 1020 0, s .pre .0 .0 .1))
+
+-- once the upper row is in
+module _ (c : tie.After-gather) where
+  abbrev started : tie.Start
+  started = c .before .before .before .before
+
+  held-one : Holds (started .args .count) (c .gather .last .0) (slice (started .args .first) (started .args .first + started .args .count) (now (started .args .upper)))
+  held-one = holds-first _ _ _ _ _ (started .pre .0 .0) (started .pre .1 .2) (c .gather .ensures)
 
 slice-aggregate-gather-2 : tie.Need-slice-aggregate-gather-2
 slice-aggregate-gather-2 c = search needs
 
 gather-requires-2 : tie.Need-gather-requires-2
-gather-requires-2 c κs = search needs
+gather-requires-2 c κs =
+    let g = c .before .before in
+    let s = started g in
+    ((omega arith, omega (arith, s .pre .0 .1 .0, s .pre .1 .2)), (held-small _ _ _ (held-one g), s .pre .0 .1 .1))
 
 slice-aggregate-middle : tie.Need-slice-aggregate-middle
 slice-aggregate-middle c = search needs
@@ -28,20 +40,16 @@ slice-aggregate-middle c = search needs
 add-middle : tie.Need-add-middle
 add-middle c = search needs
 
--- once the rows are in
+-- and the lower one too
 module _ (c : tie.After-gather2) where
   abbrev S : tie.Start
-  S = c .before .before .before .before .before .before .before
+  S = started (c .before .before .before)
 
   abbrev columns : List ℕ → List ℕ
   columns row = slice (S .args .first) (S .args .first + S .args .count) row
 
   held : Holds (S .args .count + S .args .count) (c .gather2 .last .0) (columns (now (S .args .upper)) ++ columns (now (S .args .lower)))
-  held =
-      let rows = S .pre .0 in
-      let inside = S .pre .1 .2 in
-      let one = holds-first _ _ _ _ _ (rows .0) inside (c .before .before .before .gather .ensures) in
-      holds-more _ _ _ _ _ _ _ _ one (rows .1) inside (c .gather2 .ensures)
+  held = holds-more _ _ _ _ _ _ _ _ (held-one (c .before .before .before)) (S .pre .0 .1) (S .pre .1 .2) (c .gather2 .ensures)
 
 middle-requires : tie.Need-middle-requires
 middle-requires c κs =

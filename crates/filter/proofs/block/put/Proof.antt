@@ -4,9 +4,9 @@ use mathlib.Core.Path.{_≡_, refl, sym, _∙_}
 use denote.Ref.{now}
 use native.Mathlib.Omega.{arith}
 use borrow.Author.Needs.{needs}
-use lib.ListN.{length, take, length-set}
+use lib.ListN.{length, getD, take, length-set}
 use Rattle.filter.specs.Median.{insert}
-use Rattle.filter.proofs.Inserting.{passed, passed-none, passed-more, passed-all}
+use Rattle.filter.proofs.Inserting.{passed, passed-none, passed-more, passed-small, passed-all}
 use Rattle.filter.proofs.block.put.Statement.{statement}
 use Rattle.filter.proofs.block.put.Tie as tie
 
@@ -19,6 +19,13 @@ abbrev μ-loop : tie.MeasureT-loop
 loop-holds : tie.Need-loop-holds Inv-loop μ-loop
 loop-holds c = (search needs, refl, passed-none (now (c .before .args .t)) (c .before .args .n) (c .before .args .v))
 
+-- what is carried and what it is held against
+small : (c : tie.In-loop Inv-loop μ-loop) → let l = c .before .loop in (l .carried ≤ 1020) × (getD (l .t) (l .k) 0 ≤ 1020)
+small c =
+    let l = c .before .loop in
+    let s = c .before .before .before in
+    passed-small 1020 (l .t) (take (s .args .n) (now (s .args .t))) (s .args .n) (l .k) (l .carried) (s .args .v) (omega arith) (s .pre .1) (s .pre .2) (l .inv .2)
+
 mul-x : tie.Need-mul-x Inv-loop μ-loop
 mul-x c = omega arith
 
@@ -26,7 +33,7 @@ slice-read-x : tie.Need-slice-read-x Inv-loop μ-loop
 slice-read-x c = omega arith
 
 smaller-requires : tie.Need-smaller-requires Inv-loop μ-loop
-smaller-requires c κs = search needs
+smaller-requires c κs = small (c .before)
 
 mul-t : tie.Need-mul-t Inv-loop μ-loop
 mul-t c = omega arith
@@ -35,7 +42,7 @@ slice-write-t : tie.Need-slice-write-t Inv-loop μ-loop
 slice-write-t c = omega arith
 
 larger-requires : tie.Need-larger-requires Inv-loop μ-loop
-larger-requires c κs = search needs
+larger-requires c κs = small (c .before .before)
 
 add-k : tie.Need-add-k Inv-loop μ-loop
 add-k c = omega arith
