@@ -9,7 +9,7 @@ use lib.ListN.{length, take, drop, length-take, length-drop, length-append, drop
 use lib.Seq.{slice, length-slice, drop-nil, take-nil, take-at, take-all}
 use Rattle.filter.specs.Median.{rowOf, joined, passRow, pass}
 use Rattle.filter.specs.Filter.{AtMost, Side}
-use Rattle.filter.specs.Asked.{Row}
+use Rattle.filter.specs.Asked.{Row, Picture}
 use Rattle.filter.proofs.Ranges.{most-slice}
 use Rattle.filter.proofs.Blocks.{lower-row}
 
@@ -20,6 +20,10 @@ pixels w h s = mul-le-mul (s .0 .1) (s .1 .1)
 -- row j ends within the picture
 pub row-end : (w h j : ℕ) → j < h → j * w + w ≤ w * h
 row-end w h j p = omega (arith, mul-le-mul-right w p, suc-mul j w, mul-comm w h)
+
+-- a picture of two rows or more has room for two
+pub room-for-two : (w h : ℕ) (x : List ℕ) → Picture w h x → 2 ≤ h → (w + w ≤ length x) × (w * h ≤ 1048576)
+room-for-two w h x p two = (omega (arith, row-end w h 1 two, p .whole), pixels w h (p .sides))
 
 -- a part as the code takes it
 part-is : (f t : ℕ) (l : List ℕ) → f ≤ t → take (t - f) (drop f l) ≡ slice f t l

@@ -6,18 +6,15 @@ use native.Mathlib.Omega.{arith}
 use borrow.Author.Needs.{needs}
 use denote.Ref.{now}
 use lib.ListN.{length, take, drop}
-use native.Mathlib.Nat.{zero-add, one-mul, sub-zero}
+use native.Mathlib.Nat.{zero-add, sub-zero}
 use Rattle.filter.specs.Asked.{Row}
-use Rattle.filter.proofs.Parts.{pixels, row-end, part-row, first-is}
+use Rattle.filter.proofs.Parts.{room-for-two, part-row, first-is}
 use Rattle.filter.proofs.passes.first_row.Statement.{statement}
 use Rattle.filter.proofs.passes.first_row.Tie as tie
 
 -- the first two rows lie within the picture
 facts : (s : tie.Start) → let a = s .args in (a .w + a .w ≤ length (now (a .x))) × (a .w * a .h ≤ 1048576)
-facts s =
-    let a = s .args in
-    let p = s .pre .0 in
-    (omega (arith, row-end (a .w) (a .h) 1 (s .pre .1), one-mul (a .w), p .whole), pixels (a .w) (a .h) (p .sides))
+facts s = room-for-two (s .args .w) (s .args .h) (now (s .args .x)) (s .pre .0) (s .pre .1)
 
 module _ (s : tie.Start) where
   abbrev w : ℕ

@@ -3,9 +3,9 @@ use Prim.Native.Nat.{_-_}
 use mathlib.Core.Path.{_≡_, refl, sym, _∙_}
 use native.Mathlib.Omega.{arith}
 use denote.Ref.{now}
-use lib.ListN.{length, length-set}
+use lib.ListN.{length}
 use Rattle.filter.specs.Median.{rowOf}
-use Rattle.filter.proofs.Filling.{Stored, filled-more}
+use Rattle.filter.proofs.Filling.{Stored, next-stored}
 use Rattle.filter.proofs.Blocks.{length-row, cell-of-three}
 use Rattle.filter.proofs.rows.columns.Statement.{statement}
 use Rattle.filter.proofs.rows.columns.Tie as tie
@@ -44,16 +44,10 @@ loop-again c =
     let l = c .before .before .loop in
     let v = c .of-three .result in
     let rows = s .pre .0 in
-    let long = length-row (now (a .above)) (now (a .here)) (now (a .below)) in (
-      omega arith,
-      omega arith,
-      simp length-set (l .inv .2),
-      filled-more (rowOf (now (a .above)) (now (a .here)) (now (a .below))) (l .out) (l .i) v
-          (cell-of-three (l .i) (l .i - 1) 3 (length (now (a .here))) v (omega arith) (omega arith, omega arith) (now (a .above)) (now (a .here)) (now (a .below)) (rows .0 .0) refl (rows .2 .0) (c .of-three .ensures))
-          (omega arith)
-          (omega arith)
-          (l .inv .3),
-    )
+    let n = length (now (a .here)) in
+    let cell =
+    cell-of-three (l .i) (l .i - 1) 3 n v (omega arith) (omega arith, omega arith) (now (a .above)) (now (a .here)) (now (a .below)) (rows .0 .0) refl (rows .2 .0) (c .of-three .ensures) in
+    next-stored (rowOf (now (a .above)) (now (a .here)) (now (a .below))) n (length-row (now (a .above)) (now (a .here)) (now (a .below))) (l .out) (l .inv .2) v _ (l .i) (omega arith) (s .pre .1 .3) cell (l .inv .0) (l .inv .3)
 
 same-length : tie.Need-same-length Inv-loop μ-loop
 same-length c = c .before .loop .inv .2 ∙ sym (c .before .before .before .before .before .before .pre .1 .0)

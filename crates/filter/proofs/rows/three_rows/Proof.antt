@@ -4,10 +4,10 @@ use mathlib.Core.Path.{_≡_, refl, sym, _∙_}
 use mathlib.Core.List.{List, _++_}
 use native.Mathlib.Omega.{arith}
 use denote.Ref.{now}
-use lib.ListN.{length, getD, set, length-set}
+use lib.ListN.{length, getD, length-set}
 use lib.Seq.{slice}
 use Rattle.filter.specs.Median.{twiceMedian, rowOf}
-use Rattle.filter.proofs.Filling.{filled-more, filled}
+use Rattle.filter.proofs.Filling.{first-stored, last-stored}
 use Rattle.filter.proofs.Blocks.{Next, length-row, cell-of-three}
 use Rattle.filter.proofs.rows.three_rows.Statement.{statement}
 use Rattle.filter.proofs.rows.three_rows.Tie as tie
@@ -42,11 +42,8 @@ same-length c = length-set (now (c .before .before .before .before .before .befo
 returns : tie.Need-returns
 returns c =
     let s = c .before .before .before .before .before .before in
-    let out = now (s .args .out) in
     let v = c .of-three .result in
-    let long = row-long s in
-    filled (row s) (set out 0 v) 1 (omega arith) (rw (length-set out 0 v) (omega arith))
-    (filled-more (row s) out 0 v (cell-is s 0 0 1 v (omega arith) (omega arith, omega arith) (c .of-three .ensures)) (omega arith) (omega arith) refl)
+    last-stored (row s) _ (row-long s) (now (s .args .out)) (s .pre .1 .0) v 0 (omega arith) (cell-is s 0 0 1 v (omega arith) (omega arith, omega arith) (c .of-three .ensures)) refl
 
 of-three-requires-2 : tie.Need-of-three-requires-2
 of-three-requires-2 c κs = (c .before .before .before .before .before .pre .0, (omega arith, omega arith, omega arith))
@@ -58,17 +55,9 @@ inner-columns-requires : tie.Need-inner-columns-requires
 inner-columns-requires c κs =
     let first = c .before in
     let s = first .before .before .before .before .before .before in
-    let out = now (s .args .out) in
     let v = first .of-three2 .result in
-    let long = row-long s in (
-      s .pre .0,
-      (
-        length-set out 0 v ∙ s .pre .1 .0,
-        omega arith,
-        omega arith,
-        filled-more (row s) out 0 v (cell-is s 0 0 2 v (omega arith) (omega arith, omega arith) (first .of-three2 .ensures)) (omega arith) (omega arith) refl,
-      ),
-    )
+    let there = first-stored (row s) _ (row-long s) (now (s .args .out)) (s .pre .1 .0) v (s .pre .1 .1) (cell-is s 0 0 2 v (omega arith) (omega arith, omega arith) (first .of-three2 .ensures)) in
+    (s .pre .0, (length-set (now (s .args .out)) 0 v ∙ s .pre .1 .0, omega arith, omega arith, there))
 
 -- once the inner columns are there
 module _ (c : tie.After-inner-columns) where
@@ -102,13 +91,10 @@ returns-2 : tie.Need-returns-2
 returns-2 c =
     let i = c .before .before .before in
     let s = began i in
-    let n = length (now (s .args .here)) in
+    let last = length (now (s .args .here)) - 1 in
     let v = c .of-three3 .result in
-    let long = row-long s in
     let some = s .pre .1 .1 in
-    let all : n - 1 + 1 ≡ n = omega arith in
-    filled (row s) (set (inner i) (n - 1) v) n (omega arith) (rw (length-set (inner i) (n - 1) v) (omega (arith, inner-long i)))
-    (rw all at (filled-more (row s) (inner i) (n - 1) v (cell-is s (n - 1) (n - 1 - 1) 2 v (omega arith) (omega arith, omega arith) (c .of-three3 .ensures)) (omega arith) (omega (arith, inner-long i)) (i .inner-columns .ensures)))
+    last-stored (row s) _ (row-long s) (inner i) (inner-long i) v last (omega arith) (cell-is s last (last - 1) 2 v (omega arith) (omega arith, omega arith) (c .of-three3 .ensures)) (i .inner-columns .ensures)
 
 pub three-rows-spec : {M : Type 1} → statement M
 three-rows-spec =

@@ -4,10 +4,10 @@ use mathlib.Core.Path.{_≡_, refl, sym, _∙_}
 use mathlib.Core.List.{List, [], _++_}
 use native.Mathlib.Omega.{arith}
 use denote.Ref.{now}
-use lib.ListN.{length, getD, set, length-set}
+use lib.ListN.{length, getD, length-set}
 use lib.Seq.{slice}
 use Rattle.filter.specs.Median.{twiceMedian, rowOf}
-use Rattle.filter.proofs.Filling.{Stored, filled-more, filled}
+use Rattle.filter.proofs.Filling.{Stored, first-stored, next-stored, last-stored}
 use Rattle.filter.proofs.Blocks.{Next, length-row, cell-of-two}
 use Rattle.filter.proofs.rows.two_rows.Statement.{statement}
 use Rattle.filter.proofs.rows.two_rows.Tie as tie
@@ -44,11 +44,8 @@ same-length c = length-set (now (c .before .before .before .before .before .args
 returns : tie.Need-returns Inv-loop μ-loop
 returns c =
     let s = c .before .before .before .before .before in
-    let out = now (s .args .out) in
     let v = c .of-two .result in
-    let long = row-long s in
-    filled (row s) (set out 0 v) 1 (omega arith) (rw (length-set out 0 v) (omega arith))
-    (filled-more (row s) out 0 v (cell-is s 0 0 1 v (omega arith) (omega arith, omega arith) (c .of-two .ensures)) (omega arith) (omega arith) refl)
+    last-stored (row s) _ (row-long s) (now (s .args .out)) (s .pre .1 .0) v 0 (omega arith) (cell-is s 0 0 1 v (omega arith) (omega arith, omega arith) (c .of-two .ensures)) refl
 
 of-two-requires-2 : tie.Need-of-two-requires-2 Inv-loop μ-loop
 of-two-requires-2 c κs = (c .before .before .before .before .pre .0, (omega arith, omega arith, omega arith))
@@ -59,14 +56,9 @@ slice-write-out-2 c = omega arith
 loop-holds : tie.Need-loop-holds Inv-loop μ-loop
 loop-holds c =
     let s = c .before .before .before .before .before in
-    let out = now (s .args .out) in
     let v = c .of-two2 .result in
-    let long = row-long s in (
-      omega arith,
-      omega arith,
-      length-set out 0 v ∙ s .pre .1 .0,
-      filled-more (row s) out 0 v (cell-is s 0 0 2 v (omega arith) (omega arith, omega arith) (c .of-two2 .ensures)) (omega arith) (omega arith) refl,
-    )
+    let there = first-stored (row s) _ (row-long s) (now (s .args .out)) (s .pre .1 .0) v (s .pre .1 .1) (cell-is s 0 0 2 v (omega arith) (omega arith, omega arith) (c .of-two2 .ensures)) in
+    (omega arith, omega arith, length-set (now (s .args .out)) 0 v ∙ s .pre .1 .0, there)
 
 sub-of-two : tie.Need-sub-of-two Inv-loop μ-loop
 sub-of-two c = omega arith
@@ -91,12 +83,7 @@ loop-again c =
     let s = c .before .before .before .before .before .before .before .before in
     let l = c .before .before .loop in
     let v = c .of-two3 .result in
-    let long = row-long s in (
-      omega arith,
-      omega arith,
-      simp length-set (l .inv .2),
-      filled-more (row s) (l .out) (l .i) v (cell-is s (l .i) (l .i - 1) 3 v (omega arith) (omega arith, omega arith) (c .of-two3 .ensures)) (omega arith) (omega arith) (l .inv .3),
-    )
+    next-stored (row s) _ (row-long s) (l .out) (l .inv .2) v _ (l .i) (omega arith) (omega arith) (cell-is s (l .i) (l .i - 1) 3 v (omega arith) (omega arith, omega arith) (c .of-two3 .ensures)) (l .inv .0) (l .inv .3)
 
 sub-of-two-2 : tie.Need-sub-of-two-2 Inv-loop μ-loop
 sub-of-two-2 c = omega arith
@@ -117,13 +104,10 @@ returns-2 : tie.Need-returns-2 Inv-loop μ-loop
 returns-2 c =
     let s = c .before .before .before .before .before .before .before .before in
     let l = c .before .before .loop in
-    let n = length (now (s .args .upper)) in
+    let last = length (now (s .args .upper)) - 1 in
     let v = c .of-two4 .result in
-    let long = row-long s in
-    let end : l .i ≡ n - 1 = omega arith in
-    let all : n - 1 + 1 ≡ n = omega arith in
-    filled (row s) (set (l .out) (n - 1) v) n (omega arith) (rw (length-set (l .out) (n - 1) v) (omega arith))
-    (rw all at (filled-more (row s) (l .out) (n - 1) v (cell-is s (n - 1) (n - 1 - 1) 2 v (omega arith) (omega arith, omega arith) (c .of-two4 .ensures)) (omega arith) (omega arith) (rw end at (l .inv .3))))
+    let end : l .i ≡ last = omega arith in
+    last-stored (row s) _ (row-long s) (l .out) (l .inv .2) v last (omega arith) (cell-is s last (last - 1) 2 v (omega arith) (omega arith, omega arith) (c .of-two4 .ensures)) (rw end at (l .inv .3))
 
 pub two-rows-spec : {M : Type 1} → statement M
 two-rows-spec =
