@@ -153,7 +153,8 @@ def endings():
 
 
 def small_sizes():
-    return [(width, height) for width in range(1, 7) for height in range(1, 7)]
+    """Every size to 6×6; and every width to 27, where the columns between the first and the last are taken in eights."""
+    return [(width, height) for width in range(1, 7) for height in range(1, 7)] + [(width, 3) for width in range(7, 28)]
 
 
 def every_kind(rng, width, height):

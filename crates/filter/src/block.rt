@@ -73,28 +73,30 @@ fn put(t: &mut [u16], n: usize, v: u16)
     let mut carried = v;
     let mut k = 0;
     while k < n {
-        let x = t[k];
-        t[k] = smaller(carried, x);
-        carried = larger(carried, x);
+        let pair = ordered(carried, t[k]);
+        t[k] = pair.low;
+        carried = pair.high;
         k += 1;
     }
     t[n] = carried;
 }
 
-// The smaller and the larger of two values, compared as signed numbers: for those the processor has an
-// instruction, and a value is far below 32,768.
-fn smaller(a: u16, b: u16) -> u16
-    requires { ⌜ (a ≤ 1020) × (b ≤ 1020) ⌝ }
-    ensures { λ r. ⌜ r ≡ min a b ⌝ }
-{
-    if (a as i16) < (b as i16) { a } else { b }
+// Two values in ascending order.
+struct Pair {
+    low: u16,
+    high: u16,
 }
 
-fn larger(a: u16, b: u16) -> u16
+// They are compared as signed numbers: for those the processor has instructions, and a value is far
+// below 32,768.
+fn ordered(a: u16, b: u16) -> Pair
     requires { ⌜ (a ≤ 1020) × (b ≤ 1020) ⌝ }
-    ensures { λ r. ⌜ r ≡ max a b ⌝ }
+    ensures { λ r. ⌜ (r .low ≡ min a b) × (r .high ≡ max a b) ⌝ }
 {
-    if (a as i16) < (b as i16) { b } else { a }
+    if (a as i16) < (b as i16) {
+        return Pair { low: a, high: b };
+    }
+    Pair { low: b, high: a }
 }
 
 // The two middle ranks of the first n of t, which ascend, added.

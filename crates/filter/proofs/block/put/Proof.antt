@@ -26,23 +26,20 @@ small c =
     let s = c .before .before .before in
     passed-small 1020 (l .t) (take (s .args .n) (now (s .args .t))) (s .args .n) (l .k) (l .carried) (s .args .v) (omega arith) (s .pre .1) (s .pre .2) (l .inv .2)
 
-mul-x : tie.Need-mul-x Inv-loop μ-loop
-mul-x c = omega arith
+mul-ordered : tie.Need-mul-ordered Inv-loop μ-loop
+mul-ordered c = omega arith
 
-slice-read-x : tie.Need-slice-read-x Inv-loop μ-loop
-slice-read-x c = omega arith
+slice-read-ordered : tie.Need-slice-read-ordered Inv-loop μ-loop
+slice-read-ordered c = omega arith
 
-smaller-requires : tie.Need-smaller-requires Inv-loop μ-loop
-smaller-requires c κs = small (c .before)
+ordered-requires : tie.Need-ordered-requires Inv-loop μ-loop
+ordered-requires c κs = small (c .before)
 
 mul-t : tie.Need-mul-t Inv-loop μ-loop
 mul-t c = omega arith
 
 slice-write-t : tie.Need-slice-write-t Inv-loop μ-loop
 slice-write-t c = omega arith
-
-larger-requires : tie.Need-larger-requires Inv-loop μ-loop
-larger-requires c κs = small (c .before .before)
 
 add-k : tie.Need-add-k Inv-loop μ-loop
 add-k c = omega arith
@@ -52,10 +49,10 @@ loop-less c = omega arith
 
 loop-again : tie.Need-loop-again Inv-loop μ-loop
 loop-again c =
-    let l = c .before .before .before .before .loop in
-    let n = c .before .before .before .before .before .before .args .n in
+    let l = c .before .before .before .loop in
+    let n = c .before .before .before .before .before .args .n in
     let room : n ≤ length (l .t) = omega arith in
-    (omega arith, simp length-set (l .inv .1), rw (c .larger .ensures, c .before .smaller .ensures) (sym (passed-more (l .t) n (l .k) (l .carried) (omega arith) room) ∙ l .inv .2))
+    (omega arith, simp length-set (l .inv .1), rw (c .ordered .ensures .0, c .ordered .ensures .1) (sym (passed-more (l .t) n (l .k) (l .carried) (omega arith) room) ∙ l .inv .2))
 
 mul-t-2 : tie.Need-mul-t-2 Inv-loop μ-loop
 mul-t-2 c = omega arith
@@ -80,12 +77,11 @@ put-spec =
     Inv-loop
     μ-loop
     loop-holds
-    mul-x
-    slice-read-x
-    smaller-requires
+    mul-ordered
+    slice-read-ordered
+    ordered-requires
     mul-t
     slice-write-t
-    larger-requires
     add-k
     loop-less
     loop-again
