@@ -12,7 +12,8 @@
  *               numbers apply the lowest comes back, unless a function says otherwise.
  *
  * ANSWERS       What else comes back is written through a pointer, always: where the call was
- *               refused, a 0 is written. So an answer never holds what stood there before.
+ *               refused, a 0 is written (but a ratio that is too low, number 9, is given back). So
+ *               an answer never holds what stood there before.
  *
  * OWNERSHIP     Everything is lent for the length of the call and no longer. The library keeps no
  *               pointer, allocates nothing and holds no state, so any number of threads may call it
@@ -32,7 +33,7 @@
  *               else
  *                   fprintf(stderr, "refused: %d\n", number);    // 14; length is 0
  *
- * examples/c/filter.c and examples/c/length.c are whole programs.
+ * examples/c/filter.c, examples/c/measure.c and examples/c/length.c are whole programs.
  */
 #ifndef GONG_H
 #define GONG_H
@@ -82,6 +83,31 @@ enum gong_number {
  * Returns 0; or 1, 2, 3 or 4, and then nothing is written. */
 uint8_t gong_filter(const uint8_t *levels, size_t levels_len, size_t width, size_t height, uint16_t *output,
                     size_t output_len, uint16_t *work, size_t work_len);
+
+/* Whether a picture may be measured: it is filtered, and judged by what came of it.
+ *   levels, width, height, output, work   as for gong_filter; width and height are multiples of 4
+ *   ratio    receives the contrast-to-noise ratio in hundredths, rounded down, where the number is 0
+ *            or 9; else 0
+ * The filtered picture is cut into 4 by 4 tiles. Bright is the average of the sixteen tiles' maxima
+ * and dark that of their minima; the noise is the deviation of the levels from the filtered ones. A
+ * picture is discarded by 6 unless 170 <= bright <= 245, by 7 unless 10 <= dark <= 80, by 8 where
+ * there is no noise, and by 9 where bright - dark, less 1.38 deviations, is below 10 deviations.
+ * Returns 0, or 6 to 9 for a picture that is discarded, and then the buffers are as gong_filter
+ * leaves them; or 1 to 5, and then nothing is written to them. */
+uint8_t gong_measure(const uint8_t *levels, size_t levels_len, size_t width, size_t height, uint16_t *output,
+                     size_t output_len, uint16_t *work, size_t work_len, uint64_t *ratio);
+
+/* The judge alone, on a picture's numbers.
+ *   count    N, the number of pixels: 1 to 1,048,576
+ *   bright   M, the sum of the sixteen tiles' maxima, in eighths of a level: at most 32,640
+ *   dark     m, the sum of their minima, likewise
+ *   spread   D = N (sum of d^2) - (sum of d)^2, d being 8 times a level less its filtered eighths: at
+ *            most 2^62
+ *   ratio    receives the greatest whole q with (q + 138)^2 256 D <= 10,000 (M - m)^2 N^2, or 0 if
+ *            there is none, where the number is 0 or 9; else 0
+ * Returns 0, or 6 to 9 for a picture that is discarded; or 15 where one of the four is out of range,
+ * which is tested first. */
+uint8_t gong_judge(uint64_t count, uint64_t bright, uint64_t dark, uint64_t spread, uint64_t *ratio);
 
 /* The length of a sharpness.
  *   factor   the sharpness factor, in sixteenths of a pixel: 1 to 16,384

@@ -60,17 +60,38 @@ static void show(const uint16_t *space, size_t count)
         }
 }
 
-static int filter(void)
+/* `f` and `m` are lent the same: a picture and two buffers. */
+static int picture(int letter)
 {
-    uint64_t width, height;
-    size_t levels, output, work;
+    uint64_t width, height, ratio = UINT64_MAX;
+    size_t count, output, work;
 
-    if (!slice(levels_space, 1, &levels) || !number(&width) || !number(&height)) return 0;
+    if (!slice(levels_space, 1, &count) || !number(&width) || !number(&height)) return 0;
     if (!buffer(output_space, &output) || !buffer(work_space, &work)) return 0;
-    printf("f %d\n", gong_filter(levels ? levels_space : NULL, levels, width, height, output ? output_space : NULL, output,
-                                 work ? work_space : NULL, work));
+
+    const uint8_t *levels = count ? levels_space : NULL;
+    uint16_t *one = output ? output_space : NULL, *two = work ? work_space : NULL;
+
+    if (letter == 'f') {
+        printf("f %d\n", gong_filter(levels, count, width, height, one, output, two, work));
+    } else {
+        int number_back = gong_measure(levels, count, width, height, one, output, two, work, &ratio);
+
+        printf("m %d %" PRIu64 "\n", number_back, ratio);
+    }
     show(output_space, output);
     show(work_space, work);
+    return 1;
+}
+
+static int judge(void)
+{
+    uint64_t count, bright, dark, spread, ratio = UINT64_MAX;
+    int number_back;
+
+    if (!number(&count) || !number(&bright) || !number(&dark) || !number(&spread)) return 0;
+    number_back = gong_judge(count, bright, dark, spread, &ratio);
+    printf("j %d %" PRIu64 "\n", number_back, ratio);
     return 1;
 }
 
@@ -94,7 +115,9 @@ int main(void)
 
     while (good && (letter = getchar()) != EOF) {
         switch (letter) {
-        case 'f': good = filter(); break;
+        case 'f':
+        case 'm': good = picture(letter); break;
+        case 'j': good = judge(); break;
         case 'l': good = length(); break;
         default: good = 0;
         }

@@ -66,11 +66,15 @@ def fill(rng):
 
 
 def filter_arguments(rng):
-    """A picture and two buffers: mostly good, else a side out of range, a wrong number of levels, a short buffer."""
+    """A picture and two buffers."""
     width, height = sides(rng)
-    levels = picture(rng, rng.choice(KINDS), width, height)
+    return lent(rng, picture(rng, rng.choice(KINDS), width, height), width, height)
+
+
+def lent(rng, levels, width, height):
+    """A picture with two buffers: mostly good, else a side out of range, a wrong number of levels, a short buffer."""
     output, work = len(levels) + rng.choice((0, 0, 0, 1, 5)), len(levels) + rng.choice((0, 0, 0, 1, 5))
-    wrong = rng.choice(('nothing', 'nothing', 'nothing', 'nothing', 'side', 'sides', 'levels', 'output', 'work', 'buffers'))
+    wrong = rng.choice(6 * ('nothing',) + ('side', 'sides', 'levels', 'output', 'work', 'buffers'))
     if wrong in ('side', 'sides'):
         width = rng.choice((0, near(rng, 1_025), wide(rng, 64)))
     if wrong == 'sides':
@@ -84,9 +88,72 @@ def filter_arguments(rng):
     return levels, width, height, (output, fill(rng)), (work, fill(rng))
 
 
+def micrograph(rng, width, height):
+    """Bright and dark stripes or squares, wide enough to outlast the filter, with more or less noise: of every verdict."""
+    dark, bright = rng.choice((
+        lambda: (rng.randint(12, 78), rng.randint(172, 243)),
+        lambda: (rng.randint(12, 78), rng.randint(172, 243)),
+        lambda: (near(rng, 10, 80), near(rng, 170, 245)),
+        lambda: (rng.randint(0, 120), rng.randint(130, 255)),
+    ))()
+    across, down = rng.choice(((2, 10**9), (10**9, 2), (2, 2), (3, 4), (4, 3)))
+    noise = rng.choice((0, 0, 1, 2, 5, 10, 20, 40, 80))
+
+    def level(x, y):
+        ground = bright if (x // across + y // down) % 2 else dark
+        return min(max(ground + rng.randint(-noise, noise), 0), 255)
+    return [level(x, y) for y in range(height) for x in range(width)]
+
+
+def measure_arguments(rng):
+    """A picture whose sides are multiples of 4, mostly a micrograph; or any picture of the filter's."""
+    if rng.random() < 0.2:
+        return filter_arguments(rng)
+    width, height = rng.choice((
+        lambda: (4 * rng.randint(1, 4), 4 * rng.randint(1, 4)),
+        lambda: (4 * rng.randint(3, 6), 4 * rng.randint(3, 6)),
+        lambda: (16, 16),
+        lambda: (4 * rng.randint(1, 2), 4 * rng.randint(1, 10)),
+        lambda: (4 * rng.randint(1, 10), 4 * rng.randint(1, 2)),
+    ))()
+    if rng.random() < 0.8:
+        return lent(rng, micrograph(rng, width, height), width, height)
+    return lent(rng, picture(rng, rng.choice(KINDS), width, height), width, height)
+
+
+def judge_arguments(rng):
+    """N, M, m and D: mostly in range, with ratios of all sizes and at the very edge of one; else one of them is not, or all."""
+    count = rng.choice((rng.randint(1, 1_048_576), 1 + wide(rng, 20) % 1_048_576, 1, 256, 1_048_576))
+    bright, dark = (rng.choice((rng.randint(low, high), rng.randint(low, high), low, high)) for low, high in ((21_760, 31_360), (1_280, 10_240)))
+    spread = rng.choice((
+        edge(rng, count, bright, dark, 1_000),
+        edge(rng, count, bright, dark, rng.choice((1, 2, 999, 1_001, wide(rng, 37)))),
+        wide(rng, 62),
+        rng.choice((0, 1, 2, 2**62 - 1, 2**62)),
+    ))
+    wrong = rng.choice((None, None, None, None, None, 'count', 'bright', 'dark', 'spread', 'all'))
+    if wrong in ('count', 'all'):
+        count = rng.choice((near(rng, 1, 1_048_576), wide(rng, 64)))
+    if wrong in ('bright', 'all'):
+        bright = rng.choice((near(rng, 21_760, 31_360), near(rng, 32_640), wide(rng, 15), wide(rng, 64)))
+    if wrong in ('dark', 'all'):
+        dark = rng.choice((near(rng, 1_280, 10_240), near(rng, 32_640), wide(rng, 15), wide(rng, 64)))
+    if wrong in ('spread', 'all'):
+        spread = rng.choice((near(rng, 2**62), 0, wide(rng, 64)))
+    return count, bright, dark, spread
+
+
+def edge(rng, count, bright, dark, ratio):
+    """A D at which the ratio is just that many hundredths, or just fewer; or the nearest that the judge takes."""
+    most = 10_000 * (bright - dark) ** 2 * count ** 2 // (256 * (ratio + 138) ** 2)
+    return min(max(most + rng.choice((-1, 0, 1)), 0), 2**62)
+
+
 # For each call, what makes good arguments for it.
 ARGUMENTS = {
     b'f': filter_arguments,
+    b'm': measure_arguments,
+    b'j': judge_arguments,
     b'l': length_arguments,
 }
 
@@ -140,6 +207,8 @@ def random_input(rng, kind):
 # For each call, one request that is sure to be good.
 EXAMPLES = {
     b'f': ([1, 2, 3, 4], 2, 2, (5, 9), (4, 8)),
+    b'm': ([20] * 8 + [220] * 8, 4, 4, (17, 9), (16, 8)),
+    b'j': (256, 25_600, 6_400, 419_430_400),
     b'l': (32, 800),
 }
 
@@ -158,11 +227,11 @@ def small_sizes():
 
 
 def every_kind(rng, width, height):
-    """One picture of each kind, of one size."""
+    """One picture of each kind, of one size, filtered; and one measured."""
     made = b''
-    for kind in KINDS:
+    for letter, kind in [(b'f', kind) for kind in KINDS] + [(b'm', rng.choice(KINDS))]:
         levels = picture(rng, kind, width, height)
-        made += wire.encoded(b'f', levels, width, height, (len(levels), fill(rng)), (len(levels), fill(rng)))
+        made += wire.encoded(letter, levels, width, height, (len(levels), fill(rng)), (len(levels), fill(rng)))
     return made
 
 
@@ -170,9 +239,14 @@ def large(rng):
     """The largest picture; the longest thin ones; slices and buffers as long as a request may have, and one longer."""
     whole = picture(rng, 'random', 1_024, 1_024)
     made = wire.encoded(b'f', whole, 1_024, 1_024, (len(whole) + 1, fill(rng)), (len(whole), fill(rng)))
+    seen = micrograph(rng, 1_024, 1_024)
+    made += wire.encoded(b'm', seen, 1_024, 1_024, (len(seen), fill(rng)), (len(seen) + 1, fill(rng)))
     for width, height in ((1_024, 1), (1, 1_024), (1_024, 2), (2, 1_024), (1_023, 3), (3, 1_023)):
         levels = picture(rng, rng.choice(KINDS), width, height)
         made += wire.encoded(b'f', levels, width, height, (len(levels), fill(rng)), (len(levels), fill(rng)))
+    for width, height in ((1_024, 4), (4, 1_024)):
+        levels = micrograph(rng, width, height)
+        made += wire.encoded(b'm', levels, width, height, (len(levels), fill(rng)), (len(levels), fill(rng)))
     made += wire.encoded(b'f', whole + [1], 1_024, 1_024, (2, 3), (0, 0))  # one level too many: 2
     made += wire.encoded(b'f', whole, 1_024, 1_024, (2, 3), (wire.MOST, fill(rng)))  # 3
     return made + wire.encoded(b'f', [], 1, 1, (wire.MOST + 1, 0), (0, 0))  # a bad request

@@ -54,6 +54,56 @@ def twice_median(block):
     return 2 * block[middle] if len(block) % 2 else block[middle - 1] + block[middle]
 
 
+def measure(levels, width, height, output, work):
+    """Measuring: the number and q. Output and work are filtered where the number is 0 or 6 to 9."""
+    number = refused(len(levels), width, height, len(output), len(work))
+    if number == 0 and (width % 4 or height % 4):
+        number = 5  # "measuring, a side no multiple of 4"
+    if number:
+        return number, 0
+    filter(levels, width, height, output, work)
+    filtered = output[:width * height]
+    bright, dark = extremes(filtered, width, height)
+    return judge(width * height, bright, dark, spread(levels, filtered))
+
+
+def extremes(filtered, width, height):
+    """M and m: "the sum of the sixteen tile maxima", and "that of the tile minima", in eighths."""
+    wide, high = width // 4, height // 4  # "4×4 tiles of w/4 by h/4 pixels"
+    bright = dark = 0
+    for top in range(0, height, high):
+        for left in range(0, width, wide):
+            tile = [filtered[y * width + x] for y in range(top, top + high) for x in range(left, left + wide)]
+            bright += max(tile)
+            dark += min(tile)
+    return bright, dark
+
+
+def spread(levels, filtered):
+    """"D = N·(sum of d²) − (sum of d)²", with "d = 8·(original level) − (filtered eighths)" at each pixel."""
+    differences = [8 * level - eighths for level, eighths in zip(levels, filtered, strict=True)]
+    return len(differences) * sum(d * d for d in differences) - sum(differences) ** 2
+
+
+def judge(count, bright, dark, spread):
+    """The judge, from N, M, m and D: the number and q, the ratio in hundredths."""
+    # "15 is tested before 6 to 9 in the judge"
+    if not 1 <= count <= 1_048_576 or bright > 32_640 or dark > 32_640 or spread > 2**62:
+        return 15, 0
+    if not 21_760 <= bright <= 31_360:
+        return 6, 0
+    if not 1_280 <= dark <= 10_240:
+        return 7, 0
+    if spread == 0:
+        return 8, 0
+    # "the greatest whole number from 0 with (q+138)²·256·D ≤ 10,000·(M−m)²·N², and 0 where there is
+    # none": x = q + 138 is a whole number whose square is at most the quotient, rounded down.
+    ratio = isqrt(10_000 * (bright - dark) ** 2 * count ** 2 // (256 * spread)) - 138
+    if ratio < 1_000:
+        return 9, max(ratio, 0)
+    return 0, ratio
+
+
 def length(factor, pixel):
     """"Length": factor in sixteenths of a pixel, pixel in picometres. Number, length in picometres."""
     # 14: "s or p out of range"

@@ -85,6 +85,8 @@ Call = namedtuple('Call', 'arguments rule')
 
 CALLS = {
     b'f': Call([LEVELS, UNSIGNED, UNSIGNED, VALUE_BUFFER, VALUE_BUFFER], rules.filter),
+    b'm': Call([LEVELS, UNSIGNED, UNSIGNED, VALUE_BUFFER, VALUE_BUFFER], rules.measure),
+    b'j': Call([UNSIGNED, UNSIGNED, UNSIGNED, UNSIGNED], rules.judge),
     b'l': Call([SIGNED, UNSIGNED], rules.length),
 }
 

@@ -17,6 +17,19 @@ def first_pass(width, height, levels):
     return tuple(rules.one_pass(levels, width, height))
 
 
+def measured(width, height, levels):
+    """The number and q of a picture, by way of the whole call."""
+    return rules.measure(levels, width, height, [0] * len(levels), [0] * len(levels))
+
+
+def judged_six(bright):
+    return rules.judge(256, bright, 6_400, 419_430_400)[0] == 6
+
+
+def judged_seven(dark):
+    return rules.judge(256, 25_600, dark, 419_430_400)[0] == 7
+
+
 WORKED = [
     # "1×1, level 7: 56 eighths. 1×2, 0 1: 4 4. 1×3, 0 0 9: 0 0 9. 2×2, 1 2 3 4: all 20."
     (filtered, (1, 1, [7]), (0, 56)),
@@ -25,6 +38,23 @@ WORKED = [
     (filtered, (2, 2, [1, 2, 3, 4]), (0, 20, 20, 20, 20)),
     # "3×3, 1 to 9, first pass in halves: 6 7 8, 9 10 11, 12 13 14."
     (first_pass, (3, 3, [1, 2, 3, 4, 5, 6, 7, 8, 9]), (6, 7, 8, 9, 10, 11, 12, 13, 14)),
+    # "Judge with N = 256, M = 25,600: m = 6,400, D = 419,430,400 gives 0 and 1,362; D = 943,718,400 gives 9 and 862;
+    # m = 7,392, D = 655,360,000 gives 0 and 1,000; D one more gives 9 and 999."
+    (rules.judge, (256, 25_600, 6_400, 419_430_400), (0, 1_362)),
+    (rules.judge, (256, 25_600, 6_400, 943_718_400), (9, 862)),
+    (rules.judge, (256, 25_600, 7_392, 655_360_000), (0, 1_000)),
+    (rules.judge, (256, 25_600, 7_392, 655_360_001), (9, 999)),
+    # "M = 21,759 or 31,361 is 6; 21,760 and 31,360 are not. m = 1,279 or 10,241 is 7; 1,280 and 10,240 are not."
+    (judged_six, (21_759,), True),
+    (judged_six, (31_361,), True),
+    (judged_six, (21_760,), False),
+    (judged_six, (31_360,), False),
+    (judged_seven, (1_279,), True),
+    (judged_seven, (10_241,), True),
+    (judged_seven, (1_280,), False),
+    (judged_seven, (10_240,), False),
+    # "For one kind-1 record whose levels are all 40": "16 16 6 0"
+    (measured, (16, 16, [40] * 256), (6, 0)),
     # "s = 32, p = 800: 1,131."
     (rules.length, (32, 800), (0, 1_131)),
 ]

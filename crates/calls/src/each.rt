@@ -6,11 +6,18 @@ use crate::answer;
 use crate::request;
 use request::Signed;
 use request::Unsigned;
+use units::Eighths;
 use units::Picometres;
 use units::Sixteenths;
 
-// `f`: levels, width, height, output, work.
-pub(crate) fn filter(block: &mut [u8], levels: &mut [u8], one: &mut [u16], two: &mut [u16]) -> bool
+// `f` and `m`: levels, width, height, output, work.
+pub(crate) fn picture(
+    letter: u8,
+    block: &mut [u8],
+    levels: &mut [u8],
+    one: &mut [u16],
+    two: &mut [u16],
+) -> bool
     requires { ⌜ 32 ≤ length (now block) ⌝ }
 {
     let l = request::levels(levels);
@@ -24,15 +31,24 @@ pub(crate) fn filter(block: &mut [u8], levels: &mut [u8], one: &mut [u16], two: 
         return false;
     };
     let i = l.count;
-    filter_lent(block, &levels[..i], width, height, one, two)
+    picture_lent(
+        letter,
+        block,
+        &levels[..i],
+        width as usize,
+        height as usize,
+        one,
+        two,
+    )
 }
 
-// The two buffers of `f`.
-fn filter_lent(
+// Their two buffers.
+fn picture_lent(
+    letter: u8,
     block: &mut [u8],
     levels: &[u8],
-    width: u64,
-    height: u64,
+    width: usize,
+    height: usize,
     one: &mut [u16],
     two: &mut [u16],
 ) -> bool
@@ -48,19 +64,15 @@ fn filter_lent(
     }
     let j = a.count;
     let k = b.count;
-    filter_shown(
-        block,
-        levels,
-        width as usize,
-        height as usize,
-        &mut one[..j],
-        &mut two[..k],
-    );
+    if letter == b'm' {
+        measure(block, levels, width, height, &mut one[..j], &mut two[..k]);
+        return true;
+    }
+    filter(block, levels, width, height, &mut one[..j], &mut two[..k]);
     true
 }
 
-// The call, and its answer with both buffers.
-fn filter_shown(
+fn filter(
     block: &mut [u8],
     levels: &[u8],
     width: usize,
@@ -71,10 +83,54 @@ fn filter_shown(
     requires { ⌜ 32 ≤ length (now block) ⌝ }
 {
     let number = filter::filter(levels, width, height, output, work);
-    let x = answer::line(block, b'f', &[number as u64]);
-    let y = answer::values(block, x, output);
+    let at = answer::line(block, b'f', &[number as u64]);
+    buffers(block, at, output, work);
+}
+
+fn measure(
+    block: &mut [u8],
+    levels: &[u8],
+    width: usize,
+    height: usize,
+    output: &mut [u16],
+    work: &mut [u16],
+)
+    requires { ⌜ 32 ≤ length (now block) ⌝ }
+{
+    let v = judge::measure(levels, width, height, output, work);
+    let at = answer::line(block, b'm', &[v.number as u64, v.ratio]);
+    buffers(block, at, output, work);
+}
+
+// The rest of an answer: both buffers as the call left them.
+fn buffers(block: &mut [u8], at: usize, output: &[u16], work: &[u16])
+    requires { ⌜ (32 ≤ length (now block)) × (at ≤ length (now block)) ⌝ }
+{
+    let y = answer::values(block, at, output);
     let z = answer::values(block, y, work);
     answer::send(block, z);
+}
+
+// `j`: count, bright, dark, spread.
+pub(crate) fn judge(block: &mut [u8]) -> bool
+    requires { ⌜ 32 ≤ length (now block) ⌝ }
+{
+    let Unsigned::Of(count) = request::number() else {
+        return false;
+    };
+    let Unsigned::Of(bright) = request::number() else {
+        return false;
+    };
+    let Unsigned::Of(dark) = request::number() else {
+        return false;
+    };
+    let Unsigned::Of(spread) = request::number() else {
+        return false;
+    };
+    let v = judge::judge(count, Eighths::of(bright), Eighths::of(dark), spread);
+    let at = answer::line(block, b'j', &[v.number as u64, v.ratio]);
+    answer::send(block, at);
+    true
 }
 
 // `l`: factor, pixel.

@@ -31,7 +31,9 @@ fn call(
     requires { ⌜ 32 ≤ length (now block) ⌝ }
 {
     match letter {
-        b'f' => each::filter(block, levels, one, two),
+        b'f' => each::picture(letter, block, levels, one, two),
+        b'm' => each::picture(letter, block, levels, one, two),
+        b'j' => each::judge(block),
         b'l' => each::length(block),
         _ => false,
     }

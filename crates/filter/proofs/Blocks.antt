@@ -6,11 +6,11 @@ use native.Mathlib.Nat.{zero-add, zero-min, min-zero, suc-min-suc}
 use native.Mathlib.Omega.{arith}
 use lib.ListN.{length, getD, take, drop, length-append}
 use lib.Seq.{slice, length-slice, take-nil, drop-nil}
-use Rattle.filter.specs.Median.{near, insertAll, sorted, twiceMedian, block, joined, rowOf}
-use Rattle.filter.specs.Filter.{AtMost}
+use Rattle.numbers.specs.Lists.{joined, AtMost}
+use Rattle.filter.specs.Median.{near, insertAll, sorted, twiceMedian, block, rowOf}
 use Rattle.filter.specs.Asked.{Row}
-use Rattle.filter.proofs.Lists.{length-joined, joined-at}
-use Rattle.filter.proofs.Ranges.{most-append, most-slice, most-insertAll}
+use Rattle.numbers.proofs.Lists.{length-joined, joined-at, most-append, most-slice}
+use Rattle.filter.proofs.Ranges.{most-insertAll}
 use Rattle.filter.proofs.Inserting.{Gathered, insertAll-append}
 
 -- the first n of t are the levels of l, sorted

@@ -14,8 +14,9 @@ use Rattle.filter.specs.Whiteboard.{before, after, beside, places, level
 use Rattle.filter.specs.Asked.{Count}
 use Rattle.filter.proofs.Counts.{rows-times-columns}
 use Rattle.filter.proofs.Blocks.{length-row, row-at}
-use Rattle.filter.proofs.Parts.{row-end}
-use Rattle.filter.proofs.Lists.{length-joined, joined-at, slice-at, map-at, flatMap-append, map-flatMap, length-flatMap, Below, below-map, below-flatMap}
+use Rattle.numbers.proofs.Order.{row-end}
+use Rattle.numbers.proofs.Lists.{length-joined, joined-at}
+use Rattle.filter.proofs.Lists.{slice-at, map-at, flatMap-append, map-flatMap, length-flatMap, Below, below-map, below-flatMap}
 
 -- ---- k − 1, k and k + 1, where they lie inside: how many they are, and that they follow each other
 after-inside : (n k : ℕ) → k + 1 < n → after n k ≡ (k + 1) ∷ []

@@ -3,7 +3,8 @@
 use mathlib.Core.Path.{_≡_, refl}
 use mathlib.Core.List.{List, [], _∷_}
 use Prim.Native.Nat.{ℕ}
-use Rattle.filter.specs.Median.{near, block, insert, insertAll, sorted, twiceMedian, joined, rowOf, passRow, pass}
+use Rattle.numbers.specs.Lists.{joined}
+use Rattle.filter.specs.Median.{near, block, insert, insertAll, sorted, twiceMedian, rowOf, passRow, pass}
 use Rattle.filter.specs.Filter.{halves, quarters, eighths}
 
 -- a picture, which passes are made over it, and what they give

@@ -8,8 +8,9 @@ use native.Mathlib.Omega.{arith}
 use lib.ListN.{length, getD, take, drop, set}
 use lib.Seq.{slice, getD-take, getD-drop, slice-empty, take-suc, drop-cons, take-suc-set, drop-set-lt, drop-append-le, length-take-le}
 use Rattle.filter.specs.Median.{insert, insertAll}
-use Rattle.filter.specs.Filter.{AtMost}
-use Rattle.filter.proofs.Ranges.{append-most, most-slice, most-insert, insert-most, most-insertAll}
+use Rattle.numbers.specs.Lists.{AtMost}
+use Rattle.numbers.proofs.Lists.{append-most, most-slice}
+use Rattle.filter.proofs.Ranges.{most-insert, insert-most, most-insertAll}
 
 -- the first k are in place, c is carried on, and the rest up to n is still to be passed
 abbrev pub passed : List ℕ → ℕ → ℕ → ℕ → List ℕ

@@ -2,33 +2,10 @@
 use mathlib.Core.Path.{_≡_, refl, sym, _∙_}
 use mathlib.Core.List.{List, [], _∷_, _++_, map, flatMap, map-append, map-map, append-assoc}
 use Prim.Native.Nat.{ℕ, zero, suc, _+_, _*_, _<_}
-use native.Mathlib.Nat.{zero-mul, suc-mul, mul-le-mul-right}
-use native.Mathlib.Decide.{decLt}
+use native.Mathlib.Nat.{zero-mul, suc-mul}
 use native.Mathlib.Omega.{arith}
-use lib.ListN.{length, getD, take, length-append, length-map, List·getD-append}
-use lib.Seq.{slice, getD-append-add, getD-drop, getD-take}
-use Rattle.filter.specs.Median.{joined}
-
--- n lists of w elements have n·w elements together
-pub length-joined : (n w : ℕ) (f : ℕ → List ℕ) → ((k : ℕ) → k < n → length (f k) ≡ w) → length (joined n f) ≡ n * w
-unfolding joined
-length-joined zero w f p = sym (zero-mul w)
-length-joined (suc n) w f p = simp (length-append, suc-mul) (omega (arith, length-joined n w f (λ k h. p k (omega arith)), p n (omega arith)))
-
-at-seam : (l m : List ℕ) (n i : ℕ) → length l ≡ n → getD (l ++ m) (n + i) 0 ≡ getD m i 0
-at-seam l m n i e = rw (← e) (getD-append-add l m i 0)
-
--- at place j·w + i of lists of w elements, joined, stands what stands at place i of list j
-pub joined-at : (n w : ℕ) (f : ℕ → List ℕ) → ((k : ℕ) → k < n → length (f k) ≡ w) → (j i : ℕ) → j < n → i < w → getD (joined n f) (j * w + i) 0 ≡ getD (f j) i 0
-unfolding joined
-joined-at zero w f p j i g h = absurd (let z : ⊥ = omega arith in z)
-joined-at (suc n) w f p j i g h =
-    let q : (k : ℕ) → k < n → length (f k) ≡ w = λ k r. p k (omega arith) in
-    let l = length-joined n w f q in
-    elim (decLt j n) [
-      | yes r ↦ List·getD-append (joined n f) (f n) 0 (j * w + i) (omega (arith, mul-le-mul-right w r)) ∙ joined-at n w f q j i r h
-      | no r ↦ let e : j ≡ n = omega arith in rw e (at-seam (joined n f) (f n) (n * w) i l)
-    ]
+use lib.ListN.{length, getD, take, length-append, length-map}
+use lib.Seq.{slice, getD-drop, getD-take}
 
 -- at place a of the part from f to t stands what stands at place f + a of the whole
 pub slice-at : (f t a : ℕ) (l : List ℕ) → f + a < t → getD (slice f t l) a 0 ≡ getD l (f + a) 0

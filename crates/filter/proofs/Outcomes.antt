@@ -7,7 +7,9 @@ use native.Mathlib.Omega.{arith}
 use lib.Dec.{lit≤}
 use lib.ListN.{length, drop}
 use Rattle.numbers.proofs.Refusals.{goes-on, carried, together}
-use Rattle.filter.specs.Filter.{quarters, eighths, AtMost, Side, Sized, Outcome, outcome, Filtered, FilterIs}
+use Rattle.numbers.specs.Lists.{AtMost}
+use Rattle.numbers.specs.Refusals.{Unless}
+use Rattle.filter.specs.Filter.{quarters, eighths, Side, Sized, Outcome, outcome, Filtered, FilterIs}
 use Rattle.filter.proofs.Ranges.{most-eighths}
 use Rattle.filter.proofs.Drawn.{length-eighths}
 
@@ -31,6 +33,13 @@ pub fits : (levels w h output work r : ℕ) → r ≡ 0 → Sized levels w h out
 fits levels w h output work r z d =
     elim (settled levels w h output work (λ n. r ≡ n) (r ≡ 0) d) [ inl e ↦ absurd (let some = e .1 in let is = e .2 in let no : ⊥ = omega arith in no) | inr f ↦ f .0 ]
 
+-- the sizes decide one number
+pub one-size : (levels w h output work r r' : ℕ) → Sized levels w h output work (λ n. r ≡ n) (r ≡ 0) → Sized levels w h output work (λ n. r' ≡ n) (r' ≡ 0) → r ≡ r'
+one-size levels w h output work r r' = together same (together same (together same (together same same)))
+  where
+    same : {n : ℕ} → r ≡ n → r' ≡ n → r ≡ r'
+    same p q = p ∙ sym q
+
 module _ (levels : List ℕ) (w h : ℕ) (output work : List ℕ) where
   -- a refused call: the number, and nothing written
   pub refused : (r : ℕ) → (r ≡ 0 → ⊥) → Sized (length levels) w h (length output) (length work) (λ n. r ≡ n) (r ≡ 0) → FilterIs levels w h output work (outcome r output work)
@@ -51,6 +60,15 @@ module _ (levels : List ℕ) (w h : ℕ) (output work : List ℕ) where
         long = length-eighths w h levels (f .all-levels);
         most = most-eighths w h levels small;
       }))))
+
+  -- what a caller knows who has made sure of the sizes
+  pub when-fits : (r : Outcome) → Fits (length levels) w h (length output) (length work) → FilterIs levels w h output work r → Filtered levels w h output work r
+  when-fits r f d =
+      past (f .long-work) (past (f .long-output) (past (f .all-levels) (past (f .sides) d)))
+    where
+      past : {P A B : Type 0} → P → Unless P A B → B
+      past p (inl a) = absurd (a .0 p)
+      past p (inr b) = b .1
 
   -- what a caller reads off the number: 0 says that the sizes fit and the picture is filtered
   pub when-done : (r : Outcome) → r .number ≡ 0 → FilterIs levels w h output work r → Fits (length levels) w h (length output) (length work) × Filtered levels w h output work r

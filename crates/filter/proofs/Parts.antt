@@ -1,25 +1,23 @@
 -- Parts of a picture: where its rows start and end, and that the parts that the code takes are the rows of the definition.
 use mathlib.Core.Path.{_≡_, sym, ap, _∙_}
 use mathlib.Core.List.{List, [], _∷_, _++_, append-assoc}
-use Prim.Native.Nat.{ℕ, zero, suc, _+_, _-_, _*_, _≤_, _<_}
-use native.Mathlib.Nat.{sub-zero, zero-add, suc-sub-suc, zero-mul, suc-mul, mul-comm, mul-one, mul-le-mul-right, mul-le-mul, le-of-suc-le-suc, not-suc-le-zero}
+use Prim.Native.Nat.{ℕ, zero, suc, _+_, _-_, _*_, _≤_}
+use native.Mathlib.Nat.{sub-zero, zero-add, suc-sub-suc, zero-mul, suc-mul, mul-comm, mul-one, mul-le-mul, le-of-suc-le-suc, not-suc-le-zero}
 use native.Mathlib.Numerals.{add-one}
 use native.Mathlib.Omega.{arith}
 use lib.ListN.{length, take, drop, length-take, length-drop, length-append, drop-of-length-le}
 use lib.Seq.{slice, length-slice, drop-nil, take-nil, take-at, take-all}
-use Rattle.filter.specs.Median.{rowOf, joined, passRow, pass}
-use Rattle.filter.specs.Filter.{AtMost, Side}
+use Rattle.numbers.proofs.Order.{row-end}
+use Rattle.numbers.specs.Lists.{joined, AtMost}
+use Rattle.filter.specs.Median.{rowOf, passRow, pass}
+use Rattle.filter.specs.Filter.{Side}
 use Rattle.filter.specs.Asked.{Row, Picture}
-use Rattle.filter.proofs.Ranges.{most-slice}
+use Rattle.numbers.proofs.Lists.{most-slice}
 use Rattle.filter.proofs.Blocks.{lower-row}
 
 -- a picture has at most 1,048,576 pixels
 pub pixels : (w h : ℕ) → Side w × Side h → w * h ≤ 1048576
 pixels w h s = mul-le-mul (s .0 .1) (s .1 .1)
-
--- row j ends within the picture
-pub row-end : (w h j : ℕ) → j < h → j * w + w ≤ w * h
-row-end w h j p = omega (arith, mul-le-mul-right w p, suc-mul j w, mul-comm w h)
 
 -- a picture of two rows or more has room for two
 pub room-for-two : (w h : ℕ) (x : List ℕ) → Picture w h x → 2 ≤ h → (w + w ≤ length x) × (w * h ≤ 1048576)

@@ -1,51 +1,16 @@
--- Lists whose elements are at most b, and what a pass makes of them.
+-- What a pass makes of lists whose elements are at most b.
 use mathlib.Core.List.{List, [], _∷_, _++_}
 use Prim.Native.Nat.{ℕ, zero, suc, _+_, _-_, _*_, _/_, _≤_, zero-le, max}
 use mathlib.Core.Path.{_≡_}
 use native.Mathlib.Nat.{le-trans}
 use native.Mathlib.Omega.{arith}
-use lib.ListN.{length, replicate, take, drop}
+use lib.ListN.{length}
 use lib.Seq.{slice}
-use Rattle.filter.specs.Median.{near, insert, insertAll, sorted, twiceMedian, block, joined, rowOf, passRow, pass}
-use Rattle.filter.specs.Filter.{AtMost, Side, halves, quarters, eighths}
+use Rattle.numbers.specs.Lists.{AtMost}
+use Rattle.numbers.proofs.Lists.{most-cons, most-append, most-slice, most-joined}
+use Rattle.filter.specs.Median.{near, insert, insertAll, sorted, twiceMedian, block, rowOf, passRow, pass}
+use Rattle.filter.specs.Filter.{Side, halves, quarters, eighths}
 use Rattle.filter.specs.Asked.{Picture}
-
--- of an element and a list
-most-cons : (b x : ℕ) (l : List ℕ) → x ≤ b → AtMost b l → AtMost b (x ∷ l)
-most-cons b x l p q zero = p
-most-cons b x l p q (suc k) = q k
-
--- of two lists, one after the other
-pub most-append : (b : ℕ) (l m : List ℕ) → AtMost b l → AtMost b m → AtMost b (l ++ m)
-most-append b [] m p q k = q k
-most-append b (x ∷ l) m p q zero = p zero
-most-append b (x ∷ l) m p q (suc k) = most-append b l m (λ i. p (suc i)) q k
-
--- and of the second of them
-pub append-most : (b : ℕ) (l m : List ℕ) → AtMost b (l ++ m) → AtMost b m
-append-most b [] m p k = p k
-append-most b (x ∷ l) m p k = append-most b l m (λ i. p (suc i)) k
-
--- of zeros, as a block's places are before its levels are put in
-pub most-zeros : (b n : ℕ) → AtMost b (replicate n 0)
-most-zeros b zero k = zero-le
-most-zeros b (suc n) zero = zero-le
-most-zeros b (suc n) (suc k) = most-zeros b n k
-
-most-take : (b n : ℕ) (l : List ℕ) → AtMost b l → AtMost b (take n l)
-most-take b zero l p k = zero-le
-most-take b (suc n) [] p k = zero-le
-most-take b (suc n) (x ∷ l) p zero = p zero
-most-take b (suc n) (x ∷ l) p (suc k) = most-take b n l (λ i. p (suc i)) k
-
-most-drop : (b n : ℕ) (l : List ℕ) → AtMost b l → AtMost b (drop n l)
-most-drop b zero l p k = p k
-most-drop b (suc n) [] p k = zero-le
-most-drop b (suc n) (x ∷ l) p k = most-drop b n l (λ i. p (suc i)) k
-
--- of a part
-pub most-slice : (b f t : ℕ) (l : List ℕ) → AtMost b l → AtMost b (slice f t l)
-most-slice b f t l p = most-drop b f (take t l) (most-take b t l p)
 
 -- a level put into its place
 pub most-insert : (b v : ℕ) (l : List ℕ) → v ≤ b → AtMost b l → AtMost b (insert v l)
@@ -85,11 +50,6 @@ most-block b above here below i p q r =
     most-append b (near i above ++ near i here) (near i below)
     (most-append b (near i above) (near i here) (most-near b i above p) (most-near b i here q))
     (most-near b i below r)
-
-most-joined : (b n : ℕ) (f : ℕ → List ℕ) → ((i : ℕ) → AtMost b (f i)) → AtMost b (joined n f)
-unfolding joined
-most-joined b zero f p k = zero-le
-most-joined b (suc n) f p k = most-append b (joined n f) (f n) (most-joined b n f p) (p n) k
 
 most-row : (b : ℕ) (above here below : List ℕ) → AtMost b above → AtMost b here → AtMost b below → AtMost (b + b) (rowOf above here below)
 unfolding rowOf

@@ -3,7 +3,8 @@ use mathlib.Core.Path.{_≡_}
 use mathlib.Core.List.{List}
 use Prim.Native.Nat.{ℕ, _+_, _*_, _≤_}
 use lib.ListN.{length}
-use Rattle.filter.specs.Filter.{AtMost, Side}
+use Rattle.numbers.specs.Lists.{AtMost}
+use Rattle.filter.specs.Filter.{Side}
 
 -- "A pixel so has 1, 2, 3, 4, 6 or 9 levels in its block."
 pub data Count : ℕ → Type 0 where

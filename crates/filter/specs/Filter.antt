@@ -2,8 +2,9 @@
 use mathlib.Core.Path.{_≡_}
 use mathlib.Core.List.{List, _++_}
 use Prim.Native.Nat.{ℕ, _*_, _≤_}
-use lib.ListN.{length, getD, drop}
+use lib.ListN.{length, drop}
 use Rattle.numbers.specs.Refusals.{Unless}
+use Rattle.numbers.specs.Lists.{AtMost}
 use Rattle.filter.specs.Median.{pass}
 
 -- "the first pass is held in halves, the second in quarters, the third in eighths"
@@ -15,10 +16,6 @@ quarters w h levels = pass w h (halves w h levels)
 
 unfoldable pub eighths : ℕ → ℕ → List ℕ → List ℕ
 eighths w h levels = pass w h (quarters w h levels)
-
--- every element of a list is at most b (what lies past its end reads as 0)
-abbrev pub AtMost : ℕ → List ℕ → Type 0
-AtMost b l = (k : ℕ) → getD l k 0 ≤ b
 
 -- "A picture has width w and height h, each 1 to 1,024"
 abbrev pub Side : ℕ → Type 0

@@ -7,7 +7,7 @@ ghost use Prim.Native.Nat.{_+_, _-_, _/_, _≤_, _<_, min, max};
 ghost use lib.ListN.{length, getD, take};
 ghost use lib.Seq.{slice};
 ghost use Rattle.filter.specs.Median.{insert, insertAll, twiceMedian};
-ghost use Rattle.filter.specs.Filter.{AtMost};
+ghost use Rattle.numbers.specs.Lists.{AtMost};
 ghost use Rattle.filter.specs.Asked.{Count, Row, Columns};
 
 // The median of some columns of one row, twice.

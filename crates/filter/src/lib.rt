@@ -29,8 +29,9 @@ pub fn filter(
     table::DONE
 }
 
-// The number that the sizes alone decide.
-fn sizes(levels: usize, width: usize, height: usize, output: usize, work: usize) -> u8
+// The number that the sizes of what is lent decide, 1 to 4, or 0: for a call that filters and has
+// more to refuse before anything is written.
+pub fn sizes(levels: usize, width: usize, height: usize, output: usize, work: usize) -> u8
     ensures { λ r. ⌜ Sized levels width height output work (λ n. r ≡ n) (r ≡ 0) ⌝ }
 {
     if width < 1 {

@@ -3,7 +3,8 @@
 ghost use mathlib.Core.Path.{_≡_};
 ghost use Prim.Native.Nat.{_+_, _-_, _*_, _≤_, _<_};
 ghost use lib.ListN.{length, take};
-ghost use Rattle.filter.specs.Median.{joined, passRow, pass};
+ghost use Rattle.numbers.specs.Lists.{joined};
+ghost use Rattle.filter.specs.Median.{passRow, pass};
 ghost use Rattle.filter.specs.Filter.{quarters, eighths, Side};
 ghost use Rattle.filter.specs.Asked.{Picture};
 use crate::rows;

@@ -2,9 +2,13 @@
 use mathlib.Core.Path.{_≡_, ap}
 use Prim.Native.Nat.{ℕ}
 use lib.IntN.{ℤ}
-use Rattle.units.specs.Units.{sixteenths, picometres}
+use Rattle.units.specs.Units.{sixteenths, picometres, eighths}
 use Rattle.units.specs.declared.Sixteenths.{Sixteenths}
 use Rattle.units.specs.declared.Picometres.{Picometres}
+use Rattle.units.specs.declared.Eighths.{Eighths}
+use Rattle.judge.specs.declared.Verdict.{Verdict}
+use Rattle.judge.specs.Judge.{verdict, JudgeIs}
+use Rattle.judge.proofs.Verdicts.{one-verdict}
 use Rattle.length.specs.declared.Sharpness.{Sharpness}
 use Rattle.length.specs.Length.{answer, LengthIs}
 use Rattle.length.proofs.Laws.{one-answer}
@@ -12,6 +16,18 @@ use Rattle.length.proofs.Laws.{one-answer}
 -- an answer to the units is an answer to their numbers, and its length goes out as a plain number
 pub handed-on : {s s' : Sixteenths} {p p' : Picometres} {r : Sharpness} {q : ℕ} → s ≡ s' → p ≡ p' → q ≡ r .length .0 → LengthIs s p r → LengthIs s' p' (answer (r .number) q)
 handed-on factor pixel length is = rw (length, ← factor, ← pixel) is
+
+-- and a verdict on M and m in eighths is a verdict on their numbers
+pub judged-on : {N D : ℕ} {M M' m m' : Eighths} {v : Verdict} → M ≡ M' → m ≡ m' → JudgeIs N M m D v → JudgeIs N M' m' D v
+judged-on bright dark is = rw (← bright, ← dark) is
+
+-- any two outcomes that `gong_judge` is permitted, the number that it returns and the ratio that it writes, are equal
+module _ (N M m D n q n' q' : ℕ) (this : JudgeIs N (eighths M) (eighths m) D (verdict n q)) (that : JudgeIs N (eighths M) (eighths m) D (verdict n' q')) where
+  same-verdict : verdict n q ≡ verdict n' q'
+  same-verdict = one-verdict N (eighths M) (eighths m) D (verdict n q) (verdict n' q') this that
+
+  pub one-ratio : (n ≡ n') × (q ≡ q')
+  one-ratio = (ap (λ (v : Verdict). v .number) same-verdict, ap (λ (v : Verdict). v .ratio) same-verdict)
 
 -- any two outcomes that `gong_length` is permitted, the number that it returns and the length that it writes, are equal
 module _ (factor : ℤ) (pixel : ℕ) (n q n' q' : ℕ) (this : LengthIs (sixteenths factor) (picometres pixel) (answer n q)) (that : LengthIs (sixteenths factor) (picometres pixel) (answer n' q')) where

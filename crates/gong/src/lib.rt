@@ -1,9 +1,12 @@
 // The C face of the library: libgong.a, which include/gong.h declares. Every rule stands in the
 // crates below; here plain numbers become units, and an answer's parts go out by the number that
 // the function returns and through the pointers that the caller lends.
-ghost use Rattle.units.specs.Units.{sixteenths, picometres};
+ghost use Rattle.units.specs.Units.{sixteenths, picometres, eighths};
 ghost use Rattle.filter.specs.Filter.{outcome, FilterIs};
+ghost use Rattle.judge.specs.Judge.{verdict, JudgeIs};
+ghost use Rattle.judge.specs.Measure.{measurement, MeasureIs};
 ghost use Rattle.length.specs.Length.{answer, LengthIs};
+use units::Eighths;
 use units::Picometres;
 use units::Sixteenths;
 
@@ -20,6 +23,33 @@ pub extern "C" fn gong_filter(
     ensures { λ r. ⌜ FilterIs (now (levels .entry)) width height (now (output .entry)) (now (work .entry)) (outcome r (now (output .exit)) (now (work .exit))) ⌝ }
 {
     filter::filter(levels, width, height, output, work)
+}
+
+// Measuring: the buffers as `gong_filter` leaves them, and the ratio in hundredths.
+#[no_mangle]
+pub extern "C" fn gong_measure(
+    levels: &[u8],
+    width: usize,
+    height: usize,
+    output: &mut [u16],
+    work: &mut [u16],
+    ratio: &mut u64,
+) -> u8
+    ensures { λ r. ⌜ MeasureIs (now (levels .entry)) width height (now (output .entry)) (now (work .entry)) (measurement (verdict r (now (ratio .exit))) (now (output .exit)) (now (work .exit))) ⌝ }
+{
+    let measured = judge::measure(levels, width, height, output, work);
+    *ratio = measured.ratio;
+    measured.number
+}
+
+// The judge alone: N, M and m in eighths of a level, D, and the ratio in hundredths.
+#[no_mangle]
+pub extern "C" fn gong_judge(count: u64, bright: u64, dark: u64, spread: u64, ratio: &mut u64) -> u8
+    ensures { λ r. ⌜ JudgeIs count (eighths bright) (eighths dark) spread (verdict r (now (ratio .exit))) ⌝ }
+{
+    let judged = judge::judge(count, Eighths::of(bright), Eighths::of(dark), spread);
+    *ratio = judged.ratio;
+    judged.number
 }
 
 // The length of a sharpness: factor in sixteenths of a pixel, pixel and length in picometres.

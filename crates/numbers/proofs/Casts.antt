@@ -1,10 +1,10 @@
 -- A signed number that is tested against 0 and cast to an unsigned one. The machine reads the number back from its bits, `toZ w (ofZ w z)`, which is z where z fits.
 -- Assumes nothing.
-use mathlib.Core.Path.{_≡_, refl, ap, _∙_}
+use mathlib.Core.Path.{_≡_, refl, _∙_}
 use mathlib.Core.Bool.{true, false, true≢false}
-use Prim.Native.Nat.{ℕ, _+_, _<_, _≤_, _^_}
+use Prim.Native.Nat.{ℕ, _<_, _≤_, _^_}
 use native.Mathlib.Omega.{arith}
-use lib.IntN.{ℤ, pos, negsuc, natAbs, subℕ, _+ℤ_, _-ℤ_}
+use lib.IntN.{ℤ, pos, negsuc, natAbs, subℕ, _-ℤ_}
 use lib.Dec.{T}
 use lib.Signed.{ltZ, nonNeg}
 use borrow.Author.Tests.{ltb-true, ltb-false}
@@ -13,7 +13,7 @@ use mir.Val.{hbits, SFits, Fits, toZ, ofZ}
 use mir.ValLaws.{toZ-ofZ, toZ-pos}
 use mathlib.Core.Logic.{⊎-elim}
 use Rattle.numbers.proofs.Order.{le-or-lt}
-use Rattle.numbers.proofs.Differences.{sub-pos, sub-neg, same-diff, pos-diff, add-diff, neg-pos}
+use Rattle.numbers.proofs.Differences.{sub-pos, sub-neg, pos-minus}
 use Rattle.numbers.specs.Signed.{natOf}
 
 negative : (z : ℤ) → ltZ z (pos 0) ≡ true → 0 ≡ natOf z
@@ -42,9 +42,7 @@ module _ (z : ℤ) (f : SFits w64 z) where
 -- a difference of two numbers of a signed width w, as the machine makes it
 module _ (w : Width) (p n : ℕ) (hp : p < 2 ^ hbits w) (hn : n < 2 ^ hbits w) where
   made : toZ w p -ℤ toZ w n ≡ subℕ p n
-  made =
-      rw (toZ-pos w p hp, toZ-pos w n hn)
-      (ap (λ (z : ℤ). pos p +ℤ z) (neg-pos n) ∙ ap (λ (z : ℤ). z +ℤ subℕ 0 n) (pos-diff p) ∙ add-diff p 0 0 n ∙ same-diff (p + 0) (0 + n) p n (omega arith))
+  made = rw (toZ-pos w p hp, toZ-pos w n hn) (pos-minus p n)
 
   small : SFits w (subℕ p n)
   small = ⊎-elim

@@ -5,7 +5,7 @@ use mathlib.Core.Logic.{⊎-elim}
 use Prim.Native.Nat.{ℕ, zero, suc, _+_, _-_, _*_, _<_, _≤_}
 use native.Mathlib.Nat.{add-mul, mul-add, sub-zero, mul-assoc}
 use native.Mathlib.Omega.{arith}
-use lib.IntN.{ℤ, pos, negsuc, negℤ, subℕ, _+ℤ_, _*ℤ_}
+use lib.IntN.{ℤ, pos, negsuc, negℤ, subℕ, _+ℤ_, _-ℤ_, _*ℤ_}
 use borrow.Author.Tests.{lt-ltb, le-ltb}
 use Rattle.numbers.proofs.Order.{le-or-lt}
 
@@ -42,16 +42,20 @@ add-diff a b c d = ⊎-elim
     (le-or-lt d c))
     (le-or-lt b a)
 
+pub neg-pos : (n : ℕ) → negℤ (pos n) ≡ subℕ 0 n
+neg-pos zero = pos-diff 0
+neg-pos (suc n) = neg-diff n
+
+-- the difference of two natural numbers, as it is written
+pub pos-minus : (a b : ℕ) → pos a -ℤ pos b ≡ subℕ a b
+pos-minus a b = ap (λ (z : ℤ). pos a +ℤ z) (neg-pos b) ∙ ap (λ (z : ℤ). z +ℤ subℕ 0 b) (pos-diff a) ∙ add-diff a 0 0 b ∙ same-diff (a + 0) (0 + b) a b (omega arith)
+
 -- a difference whose sign shows
 at-pos : (b x : ℕ) → subℕ (b + x) b ≡ pos x
 at-pos b x = same-diff (b + x) b x 0 (omega arith) ∙ sym (pos-diff x)
 
 at-neg : (a x : ℕ) → subℕ a (a + suc x) ≡ negsuc x
 at-neg a x = same-diff a (a + suc x) 0 (suc x) (omega arith) ∙ sym (neg-diff x)
-
-pub neg-pos : (n : ℕ) → negℤ (pos n) ≡ subℕ 0 n
-neg-pos zero = pos-diff 0
-neg-pos (suc n) = neg-diff n
 
 mul-pp : (b x d y : ℕ) → subℕ (b + x) b *ℤ subℕ (d + y) d ≡ subℕ ((b + x) * (d + y) + b * d) ((b + x) * d + b * (d + y))
 mul-pp b x d y =

@@ -1,8 +1,9 @@
--- Laws of order: of two numbers one is at most the other, and the order of ℤ beside that of ℕ. Assumes nothing.
+-- Laws of order: of two numbers one is at most the other, where rows end, and the order of ℤ beside that of ℕ. Assumes nothing.
 use mathlib.Core.Path.{_≡_, refl}
 use mathlib.Core.Logic.{_⊎_, inl, inr}
-use Prim.Native.Nat.{ℕ, _<_, _≤_, zero-le}
-use native.Mathlib.Nat.{lt-of-not-le, lt-irrefl}
+use Prim.Native.Nat.{ℕ, _+_, _*_, _<_, _≤_, zero-le}
+use native.Mathlib.Nat.{lt-of-not-le, lt-irrefl, mul-le-mul-right, suc-mul, mul-comm}
+use native.Mathlib.Omega.{arith}
 use native.Mathlib.Decide.{decLe}
 use lib.Dec.{leb→le, le→leb}
 use lib.IntN.{ℤ, pos, negsuc}
@@ -36,3 +37,7 @@ high-natural (negsuc n) h = zero-le
 pub positive : (z : ℤ) → 0 < natOf z → z ≡ pos (natOf z)
 positive (pos n) h = refl
 positive (negsuc n) h = absurd (lt-irrefl 0 h)
+
+-- of h rows of w, row j ends within them all
+pub row-end : (w h j : ℕ) → j < h → j * w + w ≤ w * h
+row-end w h j p = omega (arith, mul-le-mul-right w p, suc-mul j w, mul-comm w h)

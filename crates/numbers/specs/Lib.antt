@@ -1,3 +1,5 @@
 pub mod Refusals
 pub mod Greatest
 pub mod Signed
+pub mod Lists
+pub mod Sums

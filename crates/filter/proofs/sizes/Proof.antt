@@ -1,5 +1,4 @@
 -- `sizes` meets its contract: each test is one number's condition, in the order of the table. Assumes nothing.
-use Prim.Native.Nat.{_-_}
 use mathlib.Core.Path.{refl}
 use native.Mathlib.Omega.{arith}
 use Rattle.numbers.proofs.Refusals.{stops, goes-on}

@@ -1,5 +1,4 @@
 -- `middle_ranks` meets its contract: of the six counts, each arm is one. Assumes nothing.
-use Prim.Native.Nat.{_-_}
 use mathlib.Core.Path.{refl}
 use borrow.Author.Needs.{needs}
 use Rattle.filter.proofs.Counts.{nine-is-left}

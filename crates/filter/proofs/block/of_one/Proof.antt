@@ -4,7 +4,7 @@ use native.Mathlib.Omega.{arith}
 use borrow.Author.Needs.{needs}
 use denote.Ref.{now}
 use lib.Seq.{slice}
-use Rattle.filter.proofs.Ranges.{most-zeros}
+use Rattle.numbers.proofs.Lists.{most-zeros}
 use Rattle.filter.proofs.Counts.{columns-times-rows}
 use Rattle.filter.proofs.Blocks.{Holds, holds-first, held-small, held-median}
 use Rattle.filter.proofs.block.of_one.Statement.{statement}

@@ -8,7 +8,8 @@ use denote.Ref.{now}
 use lib.ListN.{length, take, drop}
 use native.Mathlib.Nat.{mul-le-mul-right, one-mul, suc-mul}
 use Rattle.filter.specs.Asked.{Row}
-use Rattle.filter.proofs.Parts.{pixels, row-end, part-row, inner-is}
+use Rattle.numbers.proofs.Order.{row-end}
+use Rattle.filter.proofs.Parts.{pixels, part-row, inner-is}
 use Rattle.filter.proofs.passes.inner_row.Statement.{statement}
 use Rattle.filter.proofs.passes.inner_row.Tie as tie
 

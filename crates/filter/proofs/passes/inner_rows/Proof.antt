@@ -6,8 +6,10 @@ use denote.Ref.{now}
 use lib.ListN.{length, take, length-take, length-drop}
 use native.Mathlib.Nat.{one-mul}
 use borrow.Rule.Slice.PartMut.{same-len-mid}
-use Rattle.filter.specs.Median.{joined, passRow}
-use Rattle.filter.proofs.Parts.{pixels, row-end, last-start, row-more, next-row}
+use Rattle.numbers.specs.Lists.{joined}
+use Rattle.filter.specs.Median.{passRow}
+use Rattle.numbers.proofs.Order.{row-end}
+use Rattle.filter.proofs.Parts.{pixels, last-start, row-more, next-row}
 use Rattle.filter.proofs.passes.inner_rows.Statement.{statement}
 use Rattle.filter.proofs.passes.inner_rows.Tie as tie
 

@@ -1,5 +1,5 @@
 -- `one_pass` meets its contract: the first row, the inner rows and the last row are in their places, one after the other. Assumes nothing.
-use Prim.Native.Nat.{ℕ, _+_, _-_, _*_, _≤_}
+use Prim.Native.Nat.{ℕ, _-_, _*_, _≤_}
 use mathlib.Core.Path.{_≡_, refl, sym, _∙_}
 use mathlib.Core.List.{List, _++_}
 use native.Mathlib.Omega.{arith}
@@ -9,7 +9,8 @@ use lib.ListN.{length, take, drop, length-take, length-drop}
 use native.Mathlib.Nat.{zero-mul}
 use borrow.Rule.Slice.PartMut.{same-len-mid}
 use lib.Seq.{length-front}
-use Rattle.filter.proofs.Parts.{row-end, single-is, first-in, last-in}
+use Rattle.numbers.proofs.Order.{row-end}
+use Rattle.filter.proofs.Parts.{single-is, first-in, last-in}
 use Rattle.filter.proofs.passes.one_pass.Statement.{statement}
 use Rattle.filter.proofs.passes.one_pass.Tie as tie
 

@@ -1,12 +1,12 @@
 -- `three_passes` meets its contract: what each pass is given is a picture, small enough to be doubled. Assumes nothing.
-use Prim.Native.Nat.{_≤_}
 use mathlib.Core.Path.{_≡_, ap, _∙_}
 use native.Mathlib.Omega.{arith}
 use borrow.Author.Needs.{needs}
 use denote.Ref.{now}
 use lib.Dec.{lit≤}
 use Rattle.filter.specs.Median.{pass}
-use Rattle.filter.specs.Filter.{AtMost, halves, quarters, eighths}
+use Rattle.numbers.specs.Lists.{AtMost}
+use Rattle.filter.specs.Filter.{halves, quarters, eighths}
 use Rattle.filter.specs.Asked.{Picture}
 use Rattle.filter.proofs.Ranges.{most-halves, most-quarters, picture-of}
 use Rattle.filter.proofs.passes.three_passes.Statement.{statement}

@@ -1,0 +1,117 @@
+-- What the definitions of the extremes mean: the maximum is an element that none exceeds, the minimum one that exceeds none; and
+-- the pixels of a tile are those of its place in the picture. Assumes nothing.
+use mathlib.Core.Path.{_≡_, refl, sym, ap, _∙_}
+use mathlib.Core.List.{List, [], _∷_}
+use mathlib.Core.Logic.{_⊎_, inl, inr}
+use Prim.Native.Nat.{ℕ, zero, suc, _+_, _*_, _/_, _<_, _≤_, zero-le, min, max}
+use native.Mathlib.Nat.{mul-le-mul-right}
+use native.Mathlib.Decide.{decLe}
+use native.Mathlib.Omega.{arith}
+use lib.ListN.{length, getD, take, drop, length-take, length-drop}
+use lib.Seq.{getD-take, getD-drop}
+use Rattle.numbers.proofs.Order.{row-end}
+use Rattle.numbers.proofs.Lists.{length-joined, joined-at}
+use Rattle.judge.specs.Extremes.{most, least, maximum, minimum, tile}
+
+-- v is an element
+abbrev pub In : ℕ → List ℕ → Type 0
+In v l = (k : ℕ) × (k < length l) × (getD l k 0 ≡ v)
+
+-- ---- the greatest, and the least, of a and the elements of a list
+most-first : (a : ℕ) (l : List ℕ) → a ≤ most a l
+unfolding most
+most-first a [] = omega arith
+most-first a (x ∷ l) = omega (arith, most-first (max a x) l)
+
+most-over : (a : ℕ) (l : List ℕ) (k : ℕ) → getD l k 0 ≤ most a l
+unfolding most
+most-over a [] k = zero-le
+most-over a (x ∷ l) zero = omega (arith, most-first (max a x) l)
+most-over a (x ∷ l) (suc k) = most-over (max a x) l k
+
+least-first : (a : ℕ) (l : List ℕ) → least a l ≤ a
+unfolding least
+least-first a [] = omega arith
+least-first a (x ∷ l) = omega (arith, least-first (min a x) l)
+
+least-under : (a : ℕ) (l : List ℕ) (k : ℕ) → k < length l → least a l ≤ getD l k 0
+unfolding least
+least-under a [] k p = absurd (let z : ⊥ = omega arith in z)
+least-under a (x ∷ l) zero p = omega (arith, least-first (min a x) l)
+least-under a (x ∷ l) (suc k) p = least-under (min a x) l k (omega arith)
+
+-- what is found where one of two has been left out is one of all
+one-of-two : (a x c : ℕ) (l : List ℕ) (v : ℕ) → (c ≡ a) ⊎ (c ≡ x) → In v (c ∷ l) → In v (a ∷ x ∷ l)
+one-of-two a x c l v e (suc k, p, f) = (suc (suc k), omega arith, f)
+one-of-two a x c l v (inl e) (zero, p, f) = (0, omega arith, sym e ∙ f)
+one-of-two a x c l v (inr e) (zero, p, f) = (1, omega arith, sym e ∙ f)
+
+max-is : (a x : ℕ) → (max a x ≡ a) ⊎ (max a x ≡ x)
+max-is a x = elim (decLe a x) [ yes h ↦ inr (omega arith) | no h ↦ inl (omega arith) ]
+
+min-is : (a x : ℕ) → (min a x ≡ a) ⊎ (min a x ≡ x)
+min-is a x = elim (decLe a x) [ yes h ↦ inl (omega arith) | no h ↦ inr (omega arith) ]
+
+most-in : (a : ℕ) (l : List ℕ) → In (most a l) (a ∷ l)
+unfolding most
+most-in a [] = (0, omega arith, refl)
+most-in a (x ∷ l) = one-of-two a x (max a x) l (most (max a x) l) (max-is a x) (most-in (max a x) l)
+
+least-in : (a : ℕ) (l : List ℕ) → In (least a l) (a ∷ l)
+unfolding least
+least-in a [] = (0, omega arith, refl)
+least-in a (x ∷ l) = one-of-two a x (min a x) l (least (min a x) l) (min-is a x) (least-in (min a x) l)
+
+-- ---- the maximum and the minimum of a list
+-- no element is greater than the maximum
+pub maximum-over : (l : List ℕ) (k : ℕ) → getD l k 0 ≤ maximum l
+unfolding maximum
+maximum-over [] k = zero-le
+maximum-over (x ∷ l) zero = most-first x l
+maximum-over (x ∷ l) (suc k) = most-over x l k
+
+-- and it is one of them, where there are any
+pub maximum-in : (l : List ℕ) → 1 ≤ length l → In (maximum l) l
+unfolding maximum
+maximum-in [] p = absurd (let z : ⊥ = omega arith in z)
+maximum-in (x ∷ l) p = most-in x l
+
+-- no element is less than the minimum
+pub minimum-under : (l : List ℕ) (k : ℕ) → k < length l → minimum l ≤ getD l k 0
+unfolding minimum
+minimum-under [] k p = absurd (let z : ⊥ = omega arith in z)
+minimum-under (x ∷ l) zero p = least-first x l
+minimum-under (x ∷ l) (suc k) p = least-under x l k (omega arith)
+
+-- and it is one of them, where there are any
+pub minimum-in : (l : List ℕ) → 1 ≤ length l → In (minimum l) l
+unfolding minimum
+minimum-in [] p = absurd (let z : ⊥ = omega arith in z)
+minimum-in (x ∷ l) p = least-in x l
+
+-- ---- the tile in row b and column a of the tiles
+module _ (w h : ℕ) (x : List ℕ) (b a : ℕ) (whole : length x ≡ w * h) (row : b < 4) (column : a < 4) where
+  abbrev start : ℕ → ℕ
+  start j = (b * (h / 4) + j) * w + a * (w / 4)
+
+  -- each of its rows has w/4 pixels: it ends within the picture's row
+  length-tile-row : (j : ℕ) → j < h / 4 → length (take (w / 4) (drop (start j) x)) ≡ w / 4
+  length-tile-row j p =
+      let down : b * (h / 4) ≤ 3 * (h / 4) = mul-le-mul-right (h / 4) (omega arith) in
+      let across : a * (w / 4) ≤ 3 * (w / 4) = mul-le-mul-right (w / 4) (omega arith) in
+      let inside : start j + w / 4 ≤ length x = omega (arith, row-end w h (b * (h / 4) + j) (omega arith)) in
+      simp (length-take, length-drop) (omega arith)
+
+  -- "tiles of w/4 by h/4 pixels"
+  pub length-tile : length (tile w h x b a) ≡ h / 4 * (w / 4)
+  unfolding tile
+  length-tile = length-joined (h / 4) (w / 4) _ length-tile-row
+
+  -- the pixel in its row j and column i is the picture's in row b·(h/4) + j and column a·(w/4) + i
+  pub tile-at : (j i : ℕ) → j < h / 4 → i < w / 4 → getD (tile w h x b a) (j * (w / 4) + i) 0 ≡ getD x ((b * (h / 4) + j) * w + (a * (w / 4) + i)) 0
+  unfolding tile
+  tile-at j i p q =
+      joined-at (h / 4) (w / 4) _ length-tile-row j i p q
+      ∙ getD-take (w / 4) (drop (start j) x) i 0 q
+      ∙ getD-drop (start j) x i 0
+      ∙ ap (λ (k : ℕ). getD x k 0) (omega arith)

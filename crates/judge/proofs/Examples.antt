@@ -1,0 +1,130 @@
+-- What a student can work by hand (document 01): the judge's examples as one table, with the ends of its ranges, which antt computes;
+-- and two small filtered pictures, cut into tiles. Assumes nothing.
+use mathlib.Core.Path.{_≡_, refl}
+use mathlib.Core.List.{List, [], _∷_}
+use mathlib.Core.Logic.{inl}
+use mathlib.Core.Option.{Option, none, some, Option·map, get}
+use Prim.Native.Nat.{ℕ, _+_, _-_, _*_, _^_}
+use native.Mathlib.Nat.{not-le-of-lt}
+use native.Mathlib.Decide.{decLe, decLt, ℕ-discrete}
+use Rattle.numbers.specs.Refusals.{Unless}
+use Rattle.numbers.specs.Lists.{joined}
+use Rattle.numbers.specs.Sums.{sum}
+use Rattle.numbers.proofs.Refusals.{stops, goes-on}
+use Rattle.numbers.proofs.Greatest.{by-neighbours}
+use Rattle.units.specs.Units.{eighths}
+use Rattle.judge.specs.declared.Verdict.{Verdict}
+use Rattle.judge.specs.Extremes.{most, least, maximum, minimum, tile, overTiles}
+use Rattle.judge.specs.Judge.{InRange, Rated, verdict, refused, JudgeIs}
+use Rattle.judge.proofs.Ratios.{reaches-falls}
+use Rattle.judge.proofs.Verdicts.{one-verdict}
+
+-- ---- a proof of what is written, where antt finds it by comparing numbers
+both : {P Q : Type 0} → Dec P → Dec Q → Dec (P × Q)
+both (yes p) (yes q) = yes (p, q)
+both (yes p) (no g) = no (λ x. g (x .1))
+both (no f) q = no (λ x. f (x .0))
+
+not : {P : Type 0} → Dec P → Dec (¬ P)
+not (yes p) = no (λ f. f p)
+not (no f) = yes f
+
+when : {P : Type 0} → Dec P → Option P
+when (yes p) = some p
+when (no f) = none
+
+unless : {P A B : Type 0} → Dec P → Option A → Option B → Option (Unless P A B)
+unless (yes p) a b = Option·map (goes-on p) b
+unless (no f) a b = Option·map (stops f) a
+
+-- ---- a row of the table: what the judge is given, and what comes back
+pub record Row : Type 0 where
+  pub count : ℕ
+  pub bright : ℕ
+  pub dark : ℕ
+  pub spread : ℕ
+  pub number : ℕ
+  pub ratio : ℕ
+
+abbrev row : ℕ → ℕ → ℕ → ℕ → ℕ → ℕ → Row
+row N M m D n q = record { count = N; bright = M; dark = m; spread = D; number = n; ratio = q }
+
+-- that the judge's promise permits the row, as Judge.antt says it
+module _ (N M m D n q : ℕ) where
+  in-range : Dec (InRange N (eighths M) (eighths m) D)
+  in-range = elim (both (decLe 1 N) (both (decLe N 1048576) (both (decLe M 32640) (both (decLe m 32640) (decLe D (2 ^ 62)))))) [
+    | yes p ↦ yes (record { count-low = p .0; count-high = p .1 .0; bright-high = p .1 .1 .0; dark-high = p .1 .1 .1 .0; spread-high = p .1 .1 .1 .1 })
+    | no f ↦ no (λ r. f (r .count-low, (r .count-high, (r .bright-high, (r .dark-high, r .spread-high)))))
+  ]
+
+  back : (k : ℕ) → Option (verdict n q ≡ refused k)
+  back k = Option·map (λ p i. verdict (p .0 i) (p .1 i)) (when (both (ℕ-discrete n k) (ℕ-discrete q 0)))
+
+  abbrev left : ℕ → ℕ
+  left k = (k + 138) * (k + 138) * 256 * D
+
+  abbrev right : ℕ
+  right = 10000 * ((M - m) * (M - m)) * (N * N)
+
+  rated : Option (Rated N (eighths M) (eighths m) D (verdict n q))
+  rated = elim (both (decLe (left q) right) (decLt right (left (q + 1)))) [
+    | yes p ↦
+        Option·map (λ number. record { ratio = inl (by-neighbours (reaches-falls N (M - m) D) (p .0) (not-le-of-lt (p .1))); number = number })
+        (unless (decLe 1000 q) (when (ℕ-discrete n 9)) (when (ℕ-discrete n 0)))
+    | no f ↦ none
+  ]
+
+  permitted : Option (JudgeIs N (eighths M) (eighths m) D (verdict n q))
+  permitted =
+      unless in-range (back 15)
+      (unless (both (decLe 21760 M) (decLe M 31360)) (back 6)
+      (unless (both (decLe 1280 m) (decLe m 10240)) (back 7)
+      (unless (not (ℕ-discrete D 0)) (back 8)
+      rated)))
+
+-- every row of a table holds: what the row gives to the judge has the row's verdict, and no other
+abbrev pub Hold : List Row → Type 0
+Hold [] = Unit {0}
+Hold (r ∷ l) =
+    ((v : Verdict) → JudgeIs (r .count) (eighths (r .bright)) (eighths (r .dark)) (r .spread) v → v ≡ verdict (r .number) (r .ratio)) × Hold l
+
+every : (l : List Row) → Option (Hold l)
+every [] = some tt
+every (r ∷ l) = elim (permitted (r .count) (r .bright) (r .dark) (r .spread) (r .number) (r .ratio)) [
+  | some p ↦ Option·map (λ rest. (λ v is. one-verdict (r .count) (eighths (r .bright)) (eighths (r .dark)) (r .spread) v (verdict (r .number) (r .ratio)) is p, rest)) (every l)
+  | none ↦ none
+]
+
+-- N, M, m and D, then the number and q: the document's four; both ends of the range of M, and of that of m, each with the number
+-- past it; no noise; and 15, which comes before 6
+abbrev pub table : List Row
+table =
+    row 256 25600 6400 419430400 0 1362
+    ∷ row 256 25600 6400 943718400 9 862
+    ∷ row 256 25600 7392 655360000 0 1000
+    ∷ row 256 25600 7392 655360001 9 999
+    ∷ row 256 21759 6400 419430400 6 0
+    ∷ row 256 21760 6400 419430400 0 1062
+    ∷ row 256 31360 6400 419430400 0 1812
+    ∷ row 256 31361 6400 419430400 6 0
+    ∷ row 256 25600 1279 419430400 7 0
+    ∷ row 256 25600 1280 419430400 0 1762
+    ∷ row 256 25600 10240 419430400 0 1062
+    ∷ row 256 25600 10241 419430400 7 0
+    ∷ row 256 25600 6400 0 8 0
+    ∷ row 256 32641 6400 419430400 15 0
+    ∷ []
+
+pub worked : Hold table
+unfolding decLe decLt ℕ-discrete both not when unless in-range back rated permitted every
+worked = get (every table) tt
+
+-- ---- tiles: 1 to 32, row by row, as a picture 8 wide and 4 high, and as one 4 wide and 8 high
+abbrev pub levels : List ℕ
+levels =
+    1 ∷ 2 ∷ 3 ∷ 4 ∷ 5 ∷ 6 ∷ 7 ∷ 8 ∷ 9 ∷ 10 ∷ 11 ∷ 12 ∷ 13 ∷ 14 ∷ 15 ∷ 16 ∷
+    17 ∷ 18 ∷ 19 ∷ 20 ∷ 21 ∷ 22 ∷ 23 ∷ 24 ∷ 25 ∷ 26 ∷ 27 ∷ 28 ∷ 29 ∷ 30 ∷ 31 ∷ 32 ∷ []
+
+pub tiles : (overTiles maximum 8 4 levels ≡ 272) × (overTiles minimum 8 4 levels ≡ 256) × (overTiles maximum 4 8 levels ≡ 296) × (overTiles minimum 4 8 levels ≡ 232)
+unfolding joined sum most least maximum minimum tile overTiles
+tiles = (refl, refl, refl, refl)

@@ -1,0 +1,185 @@
+-- Parts of a picture, row after row; tiles side by side; bands one above the other. Assumes nothing.
+use mathlib.Core.Path.{_≡_, refl, sym, ap, _∙_}
+use mathlib.Core.List.{List}
+use Prim.Native.Nat.{ℕ, zero, suc, _+_, _-_, _*_, _/_, _≤_, _<_}
+use native.Mathlib.Nat.{mul-le-mul, mul-le-mul-right, add-mul}
+use native.Mathlib.Numerals.{add-one}
+use native.Mathlib.Omega.{arith}
+use lib.ListN.{length, take, drop, length-take, length-drop, length-append}
+use Rattle.numbers.specs.Lists.{AtMost, joined}
+use Rattle.numbers.specs.Sums.{sum}
+use Rattle.numbers.proofs.Lists.{most-take, most-drop, most-joined, joined-same}
+use Rattle.numbers.proofs.Sums.{sum-none, sum-more, sum-most}
+use Rattle.judge.specs.Extremes.{most, least, maximum, minimum, tile, overTiles}
+use Rattle.judge.specs.Asked.{Part, Band, part, bandOf, Tiled}
+use Rattle.judge.proofs.Maxima.{most-append, least-append, maximum-is, minimum-is}
+
+-- a part's values are at most what the picture's are
+pub part-most : (b w wide high start : ℕ) (x : List ℕ) → AtMost b x → AtMost b (part w wide high start x)
+unfolding part
+part-most b w wide high start x p = most-joined b high _ (λ j. most-take b wide _ (most-drop b (start + j * w) x p))
+
+-- a part has a pixel
+pub part-some : (w wide high start : ℕ) (x : List ℕ) → Part w wide high start x → 0 < length (part w wide high start x)
+unfolding part joined
+part-some w wide zero start x p = absurd (let some = p .rows in let no : ⊥ = omega arith in no)
+part-some w wide (suc n) start x p =
+    let e : suc n - 1 ≡ n = omega arith in
+    let inside = rw e at (p .inside) in
+    let some = p .columns in
+    simp (length-append, length-take, length-drop) (omega arith)
+
+-- row j of a part lies in the picture
+pub row-inside : (w wide high start at j : ℕ) (x : List ℕ) → Part w wide high start x → at ≡ start + j * w → j < high → at + wide ≤ length x
+row-inside w wide high start at j x p e h = let l : j ≤ high - 1 = omega arith in omega (arith, mul-le-mul-right w l, p .inside)
+
+-- what the loop over a part's rows knows after j of them
+pub record Rows (w wide start : ℕ) (x : List ℕ) (bright dark at j : ℕ) : Type 0 where
+  pub at-is : at ≡ start + j * w
+  pub bright-is : bright ≡ most 0 (part w wide j start x)
+  pub dark-is : dark ≡ least 65535 (part w wide j start x)
+
+module _ (w wide start : ℕ) (x : List ℕ) where
+  pub rows-none : Rows w wide start x 0 65535 start 0
+  unfolding part joined most least
+  rows-none = record { at-is = omega arith; bright-is = refl; dark-is = refl }
+
+  -- one row more, as the code takes it
+  pub rows-more : (bright dark at j bright' dark' : ℕ) → Rows w wide start x bright dark at j
+      → bright' ≡ most bright (take (at + wide - at) (drop at x)) → dark' ≡ least dark (take (at + wide - at) (drop at x))
+      → Rows w wide start x bright' dark' (at + w) (j + 1)
+  unfolding part joined
+  rows-more bright dark at j bright' dark' s b d =
+      let long : at + wide - at ≡ wide = omega arith in
+      let row : ℕ → List ℕ = λ (k : ℕ). take wide (drop (start + k * w) x) in
+      let here : take (at + wide - at) (drop at x) ≡ row j = rw (long, s .at-is) in
+      record {
+        at-is = omega (arith, s .at-is, add-mul j 1 w);
+        bright-is = rw (add-one, b, here, s .bright-is) (sym (most-append 0 (joined j row) (row j)));
+        dark-is = rw (add-one, d, here, s .dark-is) (sym (least-append 65535 (joined j row) (row j)));
+      }
+
+  -- all rows
+  pub rows-all : (high bright dark at j : ℕ) → Part w wide high start x → AtMost 65535 x → j ≡ high → Rows w wide start x bright dark at j
+      → (bright ≡ maximum (part w wide high start x)) × (dark ≡ minimum (part w wide high start x))
+  rows-all high bright dark at j p small e s =
+      let whole = part w wide high start x in
+      let b : bright ≡ most 0 whole = rw e at (s .bright-is) in
+      let d : dark ≡ least 65535 whole = rw e at (s .dark-is) in
+      (b ∙ maximum-is whole, d ∙ minimum-is 65535 whole (part-some w wide high start x p) (part-most 65535 w wide high start x small))
+
+-- part a of a band lies in the picture
+pub part-inside : (w wide high start at a : ℕ) (x : List ℕ) → Band w wide high start x → at ≡ start + a * wide → a < 4 → Part w wide high at x
+part-inside w wide high start at a x p e h =
+    let before : a * wide ≤ 3 * wide = mul-le-mul-right wide (omega arith) in
+    let some = p .rows in
+    let one : high ≡ high - 1 + 1 = omega arith in
+    let last : high * w ≡ (high - 1) * w + w = ap (λ (k : ℕ). k * w) one ∙ omega (arith, add-mul (high - 1) 1 w) in
+    record { columns = p .columns; rows = p .rows; row-long = p .row-long; inside = omega (arith, before, last, p .inside, p .four); long = p .long }
+
+-- what the loop over a band's parts knows after a of them
+pub record Parts (w wide high start : ℕ) (x : List ℕ) (bright dark at a : ℕ) : Type 0 where
+  pub at-is : at ≡ start + a * wide
+  pub bright-is : bright ≡ sum a (λ k. maximum (part w wide high (start + k * wide) x))
+  pub dark-is : dark ≡ sum a (λ k. minimum (part w wide high (start + k * wide) x))
+  pub bright-most : bright ≤ a * 65535
+  pub dark-most : dark ≤ a * 65535
+
+module _ (w wide high start : ℕ) (x : List ℕ) where
+  pub parts-none : Parts w wide high start x 0 0 start 0
+  parts-none =
+      record { at-is = omega arith; bright-is = sym (sum-none _); dark-is = sym (sum-none _); bright-most = omega arith; dark-most = omega arith }
+
+  pub parts-more : (bright dark at a r s : ℕ) → Parts w wide high start x bright dark at a
+      → (r ≡ maximum (part w wide high at x)) × (s ≡ minimum (part w wide high at x)) → r ≤ 65535 → s ≤ 65535
+      → Parts w wide high start x (bright + r) (dark + s) (at + wide) (a + 1)
+  parts-more bright dark at a r s p ends hr hs =
+      let b : r ≡ maximum (part w wide high (start + a * wide) x) = rw (p .at-is) at (ends .0) in
+      let d : s ≡ minimum (part w wide high (start + a * wide) x) = rw (p .at-is) at (ends .1) in
+      record {
+        at-is = omega (arith, p .at-is, add-mul a 1 wide);
+        bright-is = rw (sum-more a (λ k. maximum (part w wide high (start + k * wide) x)), ← p .bright-is, ← b);
+        dark-is = rw (sum-more a (λ k. minimum (part w wide high (start + k * wide) x)), ← p .dark-is, ← d);
+        bright-most = omega (arith, p .bright-most, add-mul a 1 65535);
+        dark-most = omega (arith, p .dark-most, add-mul a 1 65535);
+      }
+
+  -- all four
+  pub parts-all : (bright dark at a : ℕ) → a ≡ 4 → Parts w wide high start x bright dark at a
+      → ((bright ≡ bandOf maximum w wide high start x) × (bright ≤ 262140)) × ((dark ≡ bandOf minimum w wide high start x) × (dark ≤ 262140))
+  unfolding bandOf
+  parts-all bright dark at a e p =
+      ((rw e at (p .bright-is), omega (arith, e, p .bright-most)), (rw e at (p .dark-is), omega (arith, e, p .dark-most)))
+
+-- a tile is a part
+tile-is : (w h b a : ℕ) (x : List ℕ) → part w (w / 4) (h / 4) (b * (h / 4) * w + a * (w / 4)) x ≡ tile w h x b a
+unfolding part tile
+tile-is w h b a x = joined-same (h / 4) _ _ (λ j. ap (λ (k : ℕ). take (w / 4) (drop k x)) (start j))
+  where
+    start : (j : ℕ) → b * (h / 4) * w + a * (w / 4) + j * w ≡ (b * (h / 4) + j) * w + a * (w / 4)
+    start j = omega (arith, add-mul (b * (h / 4)) j w)
+
+-- what the loop over the bands knows after b of them
+pub record Bands (w h : ℕ) (x : List ℕ) (bright dark at b : ℕ) : Type 0 where
+  pub at-is : at ≡ b * (h / 4) * w
+  pub bright-is : bright ≡ sum b (λ k. sum 4 (λ a. maximum (tile w h x k a)))
+  pub dark-is : dark ≡ sum b (λ k. sum 4 (λ a. minimum (tile w h x k a)))
+  pub bright-most : bright ≤ b * 262140
+  pub dark-most : dark ≤ b * 262140
+
+module _ (w h : ℕ) (x : List ℕ) where
+  -- a band of parts is a band of tiles
+  band-is : (f : List ℕ → ℕ) (b at : ℕ) → at ≡ b * (h / 4) * w → bandOf f w (w / 4) (h / 4) at x ≡ sum 4 (λ a. f (tile w h x b a))
+  unfolding bandOf sum
+  band-is f b at e = rw (e, tile-is w h b 0 x, tile-is w h b 1 x, tile-is w h b 2 x, tile-is w h b 3 x)
+
+  pub bands-none : Bands w h x 0 0 0 0
+  bands-none =
+      record { at-is = omega arith; bright-is = sym (sum-none _); dark-is = sym (sum-none _); bright-most = omega arith; dark-most = omega arith }
+
+  pub bands-more : (bright dark at b r s : ℕ) → Bands w h x bright dark at b
+      → (r ≡ bandOf maximum w (w / 4) (h / 4) at x) × (r ≤ 262140) → (s ≡ bandOf minimum w (w / 4) (h / 4) at x) × (s ≤ 262140)
+      → Bands w h x (bright + r) (dark + s) (at + h / 4 * w) (b + 1)
+  bands-more bright dark at b r s p er es =
+      let br = er .0 ∙ band-is maximum b at (p .at-is) in
+      let da = es .0 ∙ band-is minimum b at (p .at-is) in
+      record {
+        at-is = omega (arith, p .at-is, add-mul b 1 (h / 4), add-mul (b * (h / 4)) (h / 4) w);
+        bright-is = rw (sum-more b (λ k. sum 4 (λ a. maximum (tile w h x k a))), ← p .bright-is, ← br);
+        dark-is = rw (sum-more b (λ k. sum 4 (λ a. minimum (tile w h x k a))), ← p .dark-is, ← da);
+        bright-most = omega (arith, p .bright-most, er .1, add-mul b 1 262140);
+        dark-most = omega (arith, p .dark-most, es .1, add-mul b 1 262140);
+      }
+
+  -- all four bands
+  pub bands-all : (bright dark at b : ℕ) → b ≡ 4 → Bands w h x bright dark at b → (bright ≡ overTiles maximum w h x) × (dark ≡ overTiles minimum w h x)
+  unfolding overTiles
+  bands-all bright dark at b e p = (rw e at (p .bright-is), rw e at (p .dark-is))
+
+  -- band b lies in the picture
+  pub band-inside : (at b : ℕ) → Tiled w h x → at ≡ b * (h / 4) * w → b < 4 → Band w (w / 4) (h / 4) at x
+  band-inside at b t e p =
+      let k : b * (h / 4) ≤ 3 * (h / 4) = mul-le-mul-right (h / 4) (omega arith) in
+      let fours = t .by-four in
+      let sides = t .sides in
+      let l : b * (h / 4) + h / 4 ≤ h = omega arith in
+      record {
+        columns = omega arith;
+        rows = omega arith;
+        four = omega arith;
+        row-long = sides .0 .1;
+        inside = omega (arith, mul-le-mul-right w l, add-mul (b * (h / 4)) (h / 4) w, t .whole);
+        long = rw (t .whole) (mul-le-mul (sides .0 .1) (sides .1 .1));
+      }
+
+  -- the sums over sixteen tiles are at most sixteen times what every value is
+  module _ (f : List ℕ → ℕ) (b : ℕ) (p : (l : List ℕ) → AtMost b l → f l ≤ b) (q : AtMost b x) where
+    tile-most : (k a : ℕ) → f (tile w h x k a) ≤ b
+    unfolding tile
+    tile-most k a = p _ (most-joined b (h / 4) _ (λ j. most-take b (w / 4) _ (most-drop b ((k * (h / 4) + j) * w + a * (w / 4)) x q)))
+
+    pub tiles-most : overTiles f w h x ≤ 16 * b
+    unfolding overTiles
+    tiles-most =
+        let band : (k : ℕ) → sum 4 (λ a. f (tile w h x k a)) ≤ 4 * b = λ k. sum-most b 4 (λ a. f (tile w h x k a)) (tile-most k) in
+        omega (arith, sum-most (4 * b) 4 (λ k. sum 4 (λ a. f (tile w h x k a))) band)

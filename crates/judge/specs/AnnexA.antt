@@ -1,0 +1,61 @@
+-- When a picture is discarded, as 001 puts it in Annex A and document 01 after it: in averages, contrast and deviation, and with
+-- none of the judge's constants. Fractions are compared by cross products, and nothing is rounded.
+use mathlib.Core.Path.{_≡_}
+use mathlib.Core.Logic.{_⊎_}
+use Prim.Native.Nat.{ℕ, _+_, _-_, _*_, _≤_}
+use Rattle.units.specs.declared.Eighths.{Eighths}
+
+-- a fraction of two whole numbers, the lower one at least 1
+pub record Fraction : Type 0 where
+  pub upper : ℕ
+  pub lower : ℕ
+
+abbrev pub over : ℕ → ℕ → Fraction
+over a b = record { upper = a; lower = b }
+
+abbrev pub AtMost : Fraction → Fraction → Type 0
+AtMost a b = a .upper * b .lower ≤ b .upper * a .lower
+
+abbrev pub times : Fraction → Fraction → Fraction
+times a b = over (a .upper * b .upper) (a .lower * b .lower)
+
+abbrev pub squared : Fraction → Fraction
+squared a = times a a
+
+-- "So an average level a means a sum of 128·a."
+abbrev pub average : Eighths → Fraction
+average s = over (s .0) 128
+
+-- "the averages must satisfy 170 ≤ bright ≤ 245 and 10 ≤ dark ≤ 80"
+abbrev pub Within : ℕ → ℕ → Eighths → Type 0
+Within low high s = AtMost (over low 1) (average s) × AtMost (average s) (over high 1)
+
+-- bright − dark
+abbrev pub apart : Eighths → Eighths → Fraction
+apart M m = over (M .0 - m .0) 128
+
+-- "The noise deviation squared is D/(64·N²)."
+abbrev pub deviationSquared : ℕ → ℕ → Fraction
+deviationSquared N D = over D (64 * (N * N))
+
+-- "Image contrast is (bright − dark) less 1.38 deviations; the ratio is contrast over deviation": that this ratio is q hundredths
+-- or more says bright − dark − 1.38·s ≥ (q/100)·s for the deviation s, so that (q + 138)/100·s ≤ bright − dark; and here both
+-- sides are squared.
+abbrev pub RatioFrom : ℕ → Eighths → Eighths → ℕ → ℕ → Type 0
+RatioFrom N M m D q = AtMost (times (squared (over (q + 138) 100)) (deviationSquared N D)) (squared (apart M m))
+
+-- "must be 10 or more"
+abbrev pub RatioTen : ℕ → Eighths → Eighths → ℕ → Type 0
+RatioTen N M m D = RatioFrom N M m D 1000
+
+-- a stated range is left, the noise is nil or the ratio is below 10
+abbrev pub Unfit : ℕ → Eighths → Eighths → ℕ → Type 0
+Unfit N M m D = (¬ Within 170 245 M) ⊎ ((¬ Within 10 80 m) ⊎ ((D ≡ 0) ⊎ (¬ RatioTen N M m D)))
+
+-- the number says that the picture is discarded
+abbrev pub Discarded : ℕ → Type 0
+Discarded n = (6 ≤ n) × (n ≤ 9)
+
+-- each of two things follows from the other
+abbrev pub Exactly : Type 0 → Type 0 → Type 0
+Exactly A B = (A → B) × (B → A)

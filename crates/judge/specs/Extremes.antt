@@ -1,0 +1,42 @@
+-- Document 01, "Extremes and noise": the extremes of a filtered picture, tile by tile.
+use mathlib.Core.List.{List, [], _∷_}
+use Prim.Native.Nat.{ℕ, _+_, _*_, _/_, min, max}
+use lib.ListN.{take, drop}
+use Rattle.numbers.specs.Lists.{joined}
+use Rattle.numbers.specs.Sums.{sum}
+use Rattle.units.specs.Units.{eighths}
+use Rattle.units.specs.declared.Eighths.{Eighths}
+
+-- the greatest, and the least, of a and the elements of a list
+unfoldable pub most : ℕ → List ℕ → ℕ
+most a [] = a
+most a (x ∷ l) = most (max a x) l
+
+unfoldable pub least : ℕ → List ℕ → ℕ
+least a [] = a
+least a (x ∷ l) = least (min a x) l
+
+-- the maximum and the minimum of a list's elements (of no elements, which no tile has, both are 0)
+unfoldable pub maximum : List ℕ → ℕ
+maximum [] = 0
+maximum (x ∷ l) = most x l
+
+unfoldable pub minimum : List ℕ → ℕ
+minimum [] = 0
+minimum (x ∷ l) = least x l
+
+-- "The filtered picture is cut into 4×4 tiles of w/4 by h/4 pixels": the tile in row b and column a of the tiles, row by row.
+-- Its row j is the picture's row b·(h/4) + j, from column a·(w/4) on.
+unfoldable pub tile : ℕ → ℕ → List ℕ → ℕ → ℕ → List ℕ
+tile w h x b a = joined (h / 4) (λ j. take (w / 4) (drop ((b * (h / 4) + j) * w + a * (w / 4)) x))
+
+-- the sum of what f makes of each of the sixteen tiles
+unfoldable pub overTiles : (List ℕ → ℕ) → ℕ → ℕ → List ℕ → ℕ
+overTiles f w h x = sum 4 (λ b. sum 4 (λ a. f (tile w h x b a)))
+
+-- "M is the sum of the sixteen tile maxima, m that of the tile minima, both in eighths."
+abbrev pub bright : ℕ → ℕ → List ℕ → Eighths
+bright w h x = eighths (overTiles maximum w h x)
+
+abbrev pub dark : ℕ → ℕ → List ℕ → Eighths
+dark w h x = eighths (overTiles minimum w h x)

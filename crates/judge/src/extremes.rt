@@ -1,0 +1,122 @@
+// The extremes (document 01: "The filtered picture is cut into 4×4 tiles of w/4 by h/4 pixels"), from
+// the smallest piece to the largest: a row of a tile, a tile, a band of four tiles side by side, the
+// picture's four bands.
+ghost use mathlib.Core.Path.{_≡_};
+ghost use Prim.Native.Nat.{_+_, _*_, _≤_, min, max};
+ghost use Rattle.judge.specs.Extremes.{most, least, maximum, minimum, bright, dark};
+ghost use Rattle.judge.specs.Asked.{Tiled, Part, Band, part, bandOf};
+use units::Eighths;
+
+// The sums of the sixteen tiles' maxima and minima, M and m.
+pub(crate) struct Extremes {
+    pub(crate) bright: Eighths,
+    pub(crate) dark: Eighths,
+}
+
+// The same sums over some tiles, before they are given their unit.
+struct Sums {
+    bright: u64,
+    dark: u64,
+}
+
+// The greatest and the least value of a part.
+struct Ends {
+    bright: u16,
+    dark: u16,
+}
+
+// M and m of a filtered picture.
+pub(crate) fn of_tiles(x: &[u16], width: usize, height: usize) -> Extremes
+    requires { ⌜ Tiled width height (now x) ⌝ }
+    ensures { λ r. ⌜ (r .bright ≡ bright width height (now (x .entry))) × (r .dark ≡ dark width height (now (x .entry))) ⌝ }
+{
+    let wide = width / 4;
+    let high = height / 4;
+    let band = high * width;
+    let mut bright = 0u64;
+    let mut dark = 0u64;
+    let mut at = 0usize;
+    let mut b = 0usize;
+    while b < 4 {
+        let sums = band_sums(x, width, wide, high, at);
+        bright += sums.bright;
+        dark += sums.dark;
+        at += band;
+        b += 1;
+    }
+    Extremes {
+        bright: Eighths::of(bright),
+        dark: Eighths::of(dark),
+    }
+}
+
+// The sums over a band: four tiles side by side, of which the first starts at `start`.
+fn band_sums(x: &[u16], width: usize, wide: usize, high: usize, start: usize) -> Sums
+    requires { ⌜ Band width wide high start (now x) ⌝ }
+    ensures { λ r. ⌜ (r .bright ≡ bandOf maximum width wide high start (now (x .entry))) × (r .bright ≤ 262140) ⌝ }
+    ensures { λ r. ⌜ (r .dark ≡ bandOf minimum width wide high start (now (x .entry))) × (r .dark ≤ 262140) ⌝ }
+{
+    let mut bright = 0u64;
+    let mut dark = 0u64;
+    let mut at = start;
+    let mut a = 0usize;
+    while a < 4 {
+        let ends = part_ends(x, width, wide, high, at);
+        bright += ends.bright as u64;
+        dark += ends.dark as u64;
+        at += wide;
+        a += 1;
+    }
+    Sums { bright, dark }
+}
+
+// The greatest and the least value of the part that starts at `start` and has `high` rows of `wide`.
+fn part_ends(x: &[u16], width: usize, wide: usize, high: usize, start: usize) -> Ends
+    requires { ⌜ Part width wide high start (now x) ⌝ }
+    ensures { λ r. ⌜ (r .bright ≡ maximum (part width wide high start (now (x .entry)))) × (r .dark ≡ minimum (part width wide high start (now (x .entry)))) ⌝ }
+{
+    let mut bright = 0u16;
+    let mut dark = 65535u16;
+    let mut at = start;
+    let mut j = 0usize;
+    while j < high {
+        let end = at + wide;
+        let ends = row_ends(&x[at..end], bright, dark);
+        bright = ends.bright;
+        dark = ends.dark;
+        at += width;
+        j += 1;
+    }
+    Ends { bright, dark }
+}
+
+// The greatest and the least of a row's values and the two so far.
+fn row_ends(row: &[u16], bright: u16, dark: u16) -> Ends
+    ensures { λ r. ⌜ (r .bright ≡ most bright (now (row .entry))) × (r .dark ≡ least dark (now (row .entry))) ⌝ }
+{
+    let mut high = bright;
+    let mut low = dark;
+    let mut i = 0usize;
+    while i < row.len() {
+        let v = row[i];
+        high = larger(high, v);
+        low = smaller(low, v);
+        i += 1;
+    }
+    Ends {
+        bright: high,
+        dark: low,
+    }
+}
+
+fn larger(a: u16, b: u16) -> u16
+    ensures { λ r. ⌜ r ≡ max a b ⌝ }
+{
+    if a < b { b } else { a }
+}
+
+fn smaller(a: u16, b: u16) -> u16
+    ensures { λ r. ⌜ r ≡ min a b ⌝ }
+{
+    if a < b { a } else { b }
+}

@@ -1,0 +1,82 @@
+-- Laws of lists that are joined, how long they are and what stands where, and of lists whose elements are at most b.
+-- Assumes nothing.
+use mathlib.Core.Path.{_≡_, refl, sym, _∙_}
+use mathlib.Core.List.{List, [], _∷_, _++_}
+use Prim.Native.Nat.{ℕ, zero, suc, _+_, _*_, _<_, _≤_, zero-le}
+use native.Mathlib.Nat.{zero-mul, suc-mul, mul-le-mul-right}
+use native.Mathlib.Decide.{decLt}
+use native.Mathlib.Omega.{arith}
+use lib.ListN.{length, getD, take, drop, replicate, length-append, List·getD-append}
+use lib.Seq.{slice, getD-append-add}
+use Rattle.numbers.specs.Lists.{joined, AtMost}
+
+-- n lists of w elements have n·w elements together
+pub length-joined : (n w : ℕ) (f : ℕ → List ℕ) → ((k : ℕ) → k < n → length (f k) ≡ w) → length (joined n f) ≡ n * w
+unfolding joined
+length-joined zero w f p = sym (zero-mul w)
+length-joined (suc n) w f p = simp (length-append, suc-mul) (omega (arith, length-joined n w f (λ k h. p k (omega arith)), p n (omega arith)))
+
+at-seam : (l m : List ℕ) (n i : ℕ) → length l ≡ n → getD (l ++ m) (n + i) 0 ≡ getD m i 0
+at-seam l m n i e = rw (← e) (getD-append-add l m i 0)
+
+-- at place j·w + i of lists of w elements, joined, stands what stands at place i of list j
+pub joined-at : (n w : ℕ) (f : ℕ → List ℕ) → ((k : ℕ) → k < n → length (f k) ≡ w) → (j i : ℕ) → j < n → i < w → getD (joined n f) (j * w + i) 0 ≡ getD (f j) i 0
+unfolding joined
+joined-at zero w f p j i g h = absurd (let z : ⊥ = omega arith in z)
+joined-at (suc n) w f p j i g h =
+    let q : (k : ℕ) → k < n → length (f k) ≡ w = λ k r. p k (omega arith) in
+    let l = length-joined n w f q in
+    elim (decLt j n) [
+      | yes r ↦ List·getD-append (joined n f) (f n) 0 (j * w + i) (omega (arith, mul-le-mul-right w r)) ∙ joined-at n w f q j i r h
+      | no r ↦ let e : j ≡ n = omega arith in rw e (at-seam (joined n f) (f n) (n * w) i l)
+    ]
+
+-- Lists whose elements are at most b.
+-- of an element and a list
+pub most-cons : (b x : ℕ) (l : List ℕ) → x ≤ b → AtMost b l → AtMost b (x ∷ l)
+most-cons b x l p q zero = p
+most-cons b x l p q (suc k) = q k
+
+-- of two lists, one after the other
+pub most-append : (b : ℕ) (l m : List ℕ) → AtMost b l → AtMost b m → AtMost b (l ++ m)
+most-append b [] m p q k = q k
+most-append b (x ∷ l) m p q zero = p zero
+most-append b (x ∷ l) m p q (suc k) = most-append b l m (λ i. p (suc i)) q k
+
+-- and of the second of them
+pub append-most : (b : ℕ) (l m : List ℕ) → AtMost b (l ++ m) → AtMost b m
+append-most b [] m p k = p k
+append-most b (x ∷ l) m p k = append-most b l m (λ i. p (suc i)) k
+
+-- of zeros, as a block's places are before its levels are put in
+pub most-zeros : (b n : ℕ) → AtMost b (replicate n 0)
+most-zeros b zero k = zero-le
+most-zeros b (suc n) zero = zero-le
+most-zeros b (suc n) (suc k) = most-zeros b n k
+
+pub most-take : (b n : ℕ) (l : List ℕ) → AtMost b l → AtMost b (take n l)
+most-take b zero l p k = zero-le
+most-take b (suc n) [] p k = zero-le
+most-take b (suc n) (x ∷ l) p zero = p zero
+most-take b (suc n) (x ∷ l) p (suc k) = most-take b n l (λ i. p (suc i)) k
+
+pub most-drop : (b n : ℕ) (l : List ℕ) → AtMost b l → AtMost b (drop n l)
+most-drop b zero l p k = p k
+most-drop b (suc n) [] p k = zero-le
+most-drop b (suc n) (x ∷ l) p k = most-drop b n l (λ i. p (suc i)) k
+
+-- of a part
+pub most-slice : (b f t : ℕ) (l : List ℕ) → AtMost b l → AtMost b (slice f t l)
+most-slice b f t l p = most-drop b f (take t l) (most-take b t l p)
+
+-- of several lists, joined
+pub most-joined : (b n : ℕ) (f : ℕ → List ℕ) → ((i : ℕ) → AtMost b (f i)) → AtMost b (joined n f)
+unfolding joined
+most-joined b zero f p k = zero-le
+most-joined b (suc n) f p k = most-append b (joined n f) (f n) (most-joined b n f p) (p n) k
+
+-- lists that are the same, joined, are the same
+pub joined-same : (n : ℕ) (f g : ℕ → List ℕ) → ((k : ℕ) → f k ≡ g k) → joined n f ≡ joined n g
+unfolding joined
+joined-same zero f g p = refl
+joined-same (suc n) f g p = rw (joined-same n f g p, p n)
