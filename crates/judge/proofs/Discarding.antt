@@ -3,10 +3,12 @@
 use mathlib.Core.Path.{_≡_, refl}
 use mathlib.Core.List.{List}
 use mathlib.Core.Logic.{_⊎_, inl, inr}
-use Prim.Native.Nat.{ℕ, zero, suc, _+_, _-_, _*_, _≤_}
+use Prim.Native.Nat.{ℕ, zero, suc, _+_, _-_, _*_, _<_, _≤_}
+use native.Mathlib.Nat.{mul-le-mul, mul-le-mul-left, mul-le-mul-right, le-of-mul-le-mul-right}
 use native.Mathlib.Omega.{arith}
 use lib.Dec.{lit≤}
 use Rattle.numbers.specs.Refusals.{Unless}
+use Rattle.numbers.proofs.Order.{of-squares}
 use Rattle.numbers.proofs.Greatest.{next-has-not}
 use Rattle.units.specs.declared.Eighths.{Eighths}
 use Rattle.filter.specs.Filter.{eighths}
@@ -14,7 +16,7 @@ use Rattle.judge.specs.declared.Verdict.{Verdict}
 use Rattle.judge.specs.Extremes.{bright, dark}
 use Rattle.judge.specs.Judge.{InRange, BrightInRange, DarkInRange, Reaches, RatioIs, refused, JudgeIs}
 use Rattle.judge.specs.Measure.{Judged, Measurement, Measured}
-use Rattle.judge.specs.AnnexA.{Within, RatioFrom, RatioTen, Unfit, Discarded, Exactly}
+use Rattle.judge.specs.AnnexA.{Fraction, over, NotMore, times, squared, apart, deviationSquared, Within, RatioFrom, RatioTen, Unfit, Discarded, Exactly}
 use Rattle.judge.proofs.Ratios.{reaches-falls}
 
 -- "So q is the ratio in hundredths": the document's inequality is the annex's, with both sides divided by 64
@@ -26,6 +28,34 @@ pub rounded-down : (N : ℕ) (M m : Eighths) (D q : ℕ) → RatioIs N (M .0 - m
     → (RatioFrom N M m D q × (¬ RatioFrom N M m D (q + 1))) ⊎ (((k : ℕ) → ¬ RatioFrom N M m D k) × (q ≡ 0))
 rounded-down N M m D q (inl g) = inl (reaches-is N M m D q .0 (g .holds), λ t. next-has-not g (reaches-is N M m D (q + 1) .1 t))
 rounded-down N M m D q (inr n) = inr (λ k t. n .0 k (reaches-is N M m D k .1 t), n .1)
+
+-- Annex A's deviation is a root, and for most pictures no fraction. The annex asks whether (q + 138)/100 deviations are at most
+-- bright − dark, and `RatioFrom` asks it squared. The two say the same: `RatioFrom` gives the plain inequality for every fraction
+-- s that is at most the deviation; and the plain inequality for one s that is at least the deviation gives `RatioFrom`. (Where the
+-- deviation is a fraction, s is the deviation itself.)
+module _ (N : ℕ) (M m : Eighths) (D q : ℕ) (s : Fraction) where
+  abbrev x : ℕ
+  x = q + 138
+
+  abbrev Plain : Type 0
+  Plain = NotMore (times (over x 100) s) (apart M m)
+
+  pub below-deviation : 1 ≤ N → NotMore (squared s) (deviationSquared N D) → RatioFrom N M m D q → Plain
+  below-deviation some below ratio =
+      let t = s .lower in
+      let k = 64 * (N * N) in
+      let whole : 0 < k = omega (arith, mul-le-mul some some) in
+      of-squares (le-of-mul-le-mul-right
+      (omega (arith, mul-le-mul-left (x * x * 16384) below, mul-le-mul-right (t * t) ratio))
+      whole)
+
+  pub above-deviation : 1 ≤ s .lower → NotMore (deviationSquared N D) (squared s) → Plain → RatioFrom N M m D q
+  above-deviation some above plain =
+      let t = s .lower in
+      let whole : 0 < t * t = omega (arith, mul-le-mul some some) in
+      le-of-mul-le-mul-right
+      (omega (arith, mul-le-mul-left (x * x * 16384) above, mul-le-mul-right (64 * (N * N)) (mul-le-mul plain plain)))
+      whole
 
 -- the range tests in eighths are the range tests in levels
 pub bright-is : (M : Eighths) → Exactly (BrightInRange M) (Within 170 245 M)
@@ -99,11 +129,11 @@ module _ (levels : List ℕ) (w h : ℕ) (output work : List ℕ) (r : Measureme
   abbrev number : ℕ
   number = r .verdict .number
 
-  abbrev x : List ℕ
-  x = eighths w h levels
+  abbrev filtered : List ℕ
+  filtered = eighths w h levels
 
-  pub measured-discarded-exactly : Exactly (Discarded number) (Unfit (w * h) (bright w h x) (dark w h x) (d .judged .spread)) × ((number ≡ 0) ⊎ Discarded number)
-  measured-discarded-exactly = judged-discarded-exactly levels x w h (r .verdict) (d .judged)
+  pub measured-discarded-exactly : Exactly (Discarded number) (Unfit (w * h) (bright w h filtered) (dark w h filtered) (d .judged .spread)) × ((number ≡ 0) ⊎ Discarded number)
+  measured-discarded-exactly = judged-discarded-exactly levels filtered w h (r .verdict) (d .judged)
 
   pub measured-never-fifteen : ¬ (number ≡ 15)
-  measured-never-fifteen = never-fifteen levels x w h (r .verdict) (d .judged)
+  measured-never-fifteen = never-fifteen levels filtered w h (r .verdict) (d .judged)

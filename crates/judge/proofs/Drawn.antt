@@ -3,8 +3,8 @@
 use mathlib.Core.Path.{_≡_, refl, sym, ap, _∙_}
 use mathlib.Core.List.{List, [], _∷_}
 use mathlib.Core.Logic.{_⊎_, inl, inr}
-use Prim.Native.Nat.{ℕ, zero, suc, _+_, _*_, _/_, _<_, _≤_, zero-le, min, max}
-use native.Mathlib.Nat.{mul-le-mul-right}
+use Prim.Native.Nat.{ℕ, zero, suc, _+_, _*_, _/_, _%_, _<_, _≤_, zero-le, min, max}
+use native.Mathlib.Nat.{mul-le-mul-right, div-lt-iff-lt-mul, div-add-mod', mod-lt}
 use native.Mathlib.Decide.{decLe}
 use native.Mathlib.Omega.{arith}
 use lib.ListN.{length, getD, take, drop, length-take, length-drop}
@@ -12,6 +12,7 @@ use lib.Seq.{getD-take, getD-drop}
 use Rattle.numbers.proofs.Order.{row-end}
 use Rattle.numbers.proofs.Lists.{length-joined, joined-at}
 use Rattle.judge.specs.Extremes.{most, least, maximum, minimum, tile}
+use Rattle.judge.specs.Measure.{ByFour}
 
 -- v is an element
 abbrev pub In : ℕ → List ℕ → Type 0
@@ -115,3 +116,20 @@ module _ (w h : ℕ) (x : List ℕ) (b a : ℕ) (whole : length x ≡ w * h) (ro
       ∙ getD-take (w / 4) (drop (start j) x) i 0 q
       ∙ getD-drop (start j) x i 0
       ∙ ap (λ (k : ℕ). getD x k 0) (omega arith)
+
+-- the pixel in row y and column x of a picture whose sides are multiples of 4 lies in a tile, so that none is left out
+module _ (w h : ℕ) (x : List ℕ) (whole : length x ≡ w * h) (fours : ByFour w h) (row column : ℕ) (inside : (row < h) × (column < w)) where
+  -- which quarter of n a place lies in
+  quarter : (n k : ℕ) → n % 4 ≡ 0 → k < n → (0 < n / 4) × (k / (n / 4) < 4)
+  quarter n k four less =
+      let some : 0 < n / 4 = omega arith in
+      (some, div-lt-iff-lt-mul some .1 (omega arith))
+
+  pub in-a-tile : getD (tile w h x (row / (h / 4)) (column / (w / 4))) (row % (h / 4) * (w / 4) + column % (w / 4)) 0 ≡ getD x (row * w + column) 0
+  in-a-tile =
+      let down = quarter h row (fours .1) (inside .0) in
+      let across = quarter w column (fours .0) (inside .1) in
+      let here : row / (h / 4) * (h / 4) + row % (h / 4) ≡ row = div-add-mod' row (h / 4) in
+      let there : column / (w / 4) * (w / 4) + column % (w / 4) ≡ column = div-add-mod' column (w / 4) in
+      tile-at w h x (row / (h / 4)) (column / (w / 4)) whole (down .1) (across .1) (row % (h / 4)) (column % (w / 4)) (mod-lt row (down .0)) (mod-lt column (across .0))
+      ∙ rw (here, there)

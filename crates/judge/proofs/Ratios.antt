@@ -4,12 +4,12 @@ use mathlib.Core.Path.{_≡_, refl, sym, ap, _∙_}
 use mathlib.Core.Bool.{Bool, true, false, not, Bool·not-not}
 use mathlib.Core.Logic.{inl, inr, ⊎-elim}
 use Prim.Native.Nat.{ℕ, _+_, _-_, _*_, _/_, _^_, _<_, _≤_, zero-le}
-use native.Mathlib.Nat.{mul-le-mul, mul-le-mul-left, mul-le-mul-right, le-trans, lt-of-not-le, not-le-of-lt, le-div-iff-mul-le, div-le-self}
+use native.Mathlib.Nat.{mul-le-mul, mul-le-mul-left, mul-le-mul-right, le-trans, not-le-of-lt, le-div-iff-mul-le, div-le-self}
 use native.Mathlib.Omega.{arith}
 use lib.Dec.{leb, lit<}
 use borrow.Author.Tests.{leb-true, leb-false}
 use Rattle.numbers.specs.Greatest.{Greatest, Between}
-use Rattle.numbers.proofs.Order.{le-or-lt}
+use Rattle.numbers.proofs.Order.{le-or-lt, of-squares}
 use Rattle.numbers.proofs.Greatest.{Falling, one-greatest, reworded}
 use Rattle.judge.specs.Judge.{Reaches, RatioIs}
 use Rattle.judge.specs.Asked.{Under}
@@ -42,12 +42,6 @@ pub contrary : {r b : Bool} → not r ≡ b → r ≡ not b
 contrary {r} h = sym (Bool·not-not r) ∙ ap not h
 
 -- ---- a power of two below the root
--- where squares are in order, their roots are
-of-squares : {a b : ℕ} → a * a ≤ b * b → a ≤ b
-of-squares {a} {b} h =
-    let less : a < b + 1 = lt-of-not-le (λ (le : b + 1 ≤ a). omega (arith, mul-le-mul le le, h)) in
-    omega arith
-
 -- p is at most the root of d, and more than half of it
 abbrev pub BelowRoot : ℕ → ℕ → Type 0
 BelowRoot d p = (1 ≤ p) × (p ≤ 2 ^ 31) × (p * p ≤ d) × (d < 4 * (p * p))

@@ -77,35 +77,51 @@ part-inside w wide high start at a x p e h =
     let last : high * w ≡ (high - 1) * w + w = ap (λ (k : ℕ). k * w) one ∙ omega (arith, add-mul (high - 1) 1 w) in
     record { columns = p .columns; rows = p .rows; row-long = p .row-long; inside = omega (arith, before, last, p .inside, p .four); long = p .long }
 
--- what the loop over a band's parts knows after a of them
-pub record Parts (w wide high start : ℕ) (x : List ℕ) (bright dark at a : ℕ) : Type 0 where
-  pub at-is : at ≡ start + a * wide
-  pub bright-is : bright ≡ sum a (λ k. maximum (part w wide high (start + k * wide) x))
-  pub dark-is : dark ≡ sum a (λ k. minimum (part w wide high (start + k * wide) x))
-  pub bright-most : bright ≤ a * 65535
-  pub dark-most : dark ≤ a * 65535
+-- what a loop that adds f 0, f 1, .. to one sum and g 0, g 1, .. to another knows after n turns, `step` places each
+pub record Added (f g : ℕ → ℕ) (most start step : ℕ) (bright dark at n : ℕ) : Type 0 where
+  pub at-is : at ≡ start + n * step
+  pub bright-is : bright ≡ sum n f
+  pub dark-is : dark ≡ sum n g
+  pub bright-most : bright ≤ n * most
+  pub dark-most : dark ≤ n * most
 
-module _ (w wide high start : ℕ) (x : List ℕ) where
-  pub parts-none : Parts w wide high start x 0 0 start 0
-  parts-none =
-      record { at-is = omega arith; bright-is = sym (sum-none _); dark-is = sym (sum-none _); bright-most = omega arith; dark-most = omega arith }
+module _ (f g : ℕ → ℕ) (most start step : ℕ) where
+  added-none : Added f g most start step 0 0 start 0
+  added-none =
+      record { at-is = omega arith; bright-is = sym (sum-none f); dark-is = sym (sum-none g); bright-most = omega arith; dark-most = omega arith }
 
-  pub parts-more : (bright dark at a r s : ℕ) → Parts w wide high start x bright dark at a
-      → (r ≡ maximum (part w wide high at x)) × (s ≡ minimum (part w wide high at x)) → r ≤ 65535 → s ≤ 65535
-      → Parts w wide high start x (bright + r) (dark + s) (at + wide) (a + 1)
-  parts-more bright dark at a r s p ends hr hs =
-      let b : r ≡ maximum (part w wide high (start + a * wide) x) = rw (p .at-is) at (ends .0) in
-      let d : s ≡ minimum (part w wide high (start + a * wide) x) = rw (p .at-is) at (ends .1) in
+  added-more : (bright dark at n r s : ℕ) → Added f g most start step bright dark at n → (r ≡ f n) × (r ≤ most) → (s ≡ g n) × (s ≤ most)
+      → Added f g most start step (bright + r) (dark + s) (at + step) (n + 1)
+  added-more bright dark at n r s so-far is-f is-g =
       record {
-        at-is = omega (arith, p .at-is, add-mul a 1 wide);
-        bright-is = rw (sum-more a (λ k. maximum (part w wide high (start + k * wide) x)), ← p .bright-is, ← b);
-        dark-is = rw (sum-more a (λ k. minimum (part w wide high (start + k * wide) x)), ← p .dark-is, ← d);
-        bright-most = omega (arith, p .bright-most, add-mul a 1 65535);
-        dark-most = omega (arith, p .dark-most, add-mul a 1 65535);
+        at-is = omega (arith, so-far .at-is);
+        bright-is = rw (sum-more n f, ← so-far .bright-is, ← is-f .0);
+        dark-is = rw (sum-more n g, ← so-far .dark-is, ← is-g .0);
+        bright-most = omega (arith, so-far .bright-most, is-f .1);
+        dark-most = omega (arith, so-far .dark-most, is-g .1);
       }
 
+-- the loop over a band's four parts
+module _ (w wide high start : ℕ) (x : List ℕ) where
+  abbrev maxima : ℕ → ℕ
+  maxima a = maximum (part w wide high (start + a * wide) x)
+
+  abbrev minima : ℕ → ℕ
+  minima a = minimum (part w wide high (start + a * wide) x)
+
+  abbrev pub Parts : ℕ → ℕ → ℕ → ℕ → Type 0
+  Parts = Added maxima minima 65535 start wide
+
+  pub parts-none : Parts 0 0 start 0
+  parts-none = added-none maxima minima 65535 start wide
+
+  pub parts-more : (bright dark at a r s : ℕ) → Parts bright dark at a → (r ≡ maximum (part w wide high at x)) × (s ≡ minimum (part w wide high at x)) → r ≤ 65535 → s ≤ 65535
+      → Parts (bright + r) (dark + s) (at + wide) (a + 1)
+  parts-more bright dark at a r s p ends hr hs =
+      added-more maxima minima 65535 start wide bright dark at a r s p (rw (p .at-is) at (ends .0), hr) (rw (p .at-is) at (ends .1), hs)
+
   -- all four
-  pub parts-all : (bright dark at a : ℕ) → a ≡ 4 → Parts w wide high start x bright dark at a
+  pub parts-all : (bright dark at a : ℕ) → a ≡ 4 → Parts bright dark at a
       → ((bright ≡ bandOf maximum w wide high start x) × (bright ≤ 262140)) × ((dark ≡ bandOf minimum w wide high start x) × (dark ≤ 262140))
   unfolding bandOf
   parts-all bright dark at a e p =
@@ -119,45 +135,39 @@ tile-is w h b a x = joined-same (h / 4) _ _ (λ j. ap (λ (k : ℕ). take (w / 4
     start : (j : ℕ) → b * (h / 4) * w + a * (w / 4) + j * w ≡ (b * (h / 4) + j) * w + a * (w / 4)
     start j = omega (arith, add-mul (b * (h / 4)) j w)
 
--- what the loop over the bands knows after b of them
-pub record Bands (w h : ℕ) (x : List ℕ) (bright dark at b : ℕ) : Type 0 where
-  pub at-is : at ≡ b * (h / 4) * w
-  pub bright-is : bright ≡ sum b (λ k. sum 4 (λ a. maximum (tile w h x k a)))
-  pub dark-is : dark ≡ sum b (λ k. sum 4 (λ a. minimum (tile w h x k a)))
-  pub bright-most : bright ≤ b * 262140
-  pub dark-most : dark ≤ b * 262140
-
+-- the loop over the picture's four bands
 module _ (w h : ℕ) (x : List ℕ) where
+  abbrev overBand : (List ℕ → ℕ) → ℕ → ℕ
+  overBand f b = sum 4 (λ a. f (tile w h x b a))
+
   -- a band of parts is a band of tiles
-  band-is : (f : List ℕ → ℕ) (b at : ℕ) → at ≡ b * (h / 4) * w → bandOf f w (w / 4) (h / 4) at x ≡ sum 4 (λ a. f (tile w h x b a))
+  band-is : (f : List ℕ → ℕ) (b at : ℕ) → at ≡ 0 + b * (h / 4 * w) → bandOf f w (w / 4) (h / 4) at x ≡ overBand f b
   unfolding bandOf sum
-  band-is f b at e = rw (e, tile-is w h b 0 x, tile-is w h b 1 x, tile-is w h b 2 x, tile-is w h b 3 x)
+  band-is f b at e =
+      let start : at ≡ b * (h / 4) * w = omega arith in
+      rw (start, tile-is w h b 0 x, tile-is w h b 1 x, tile-is w h b 2 x, tile-is w h b 3 x)
 
-  pub bands-none : Bands w h x 0 0 0 0
-  bands-none =
-      record { at-is = omega arith; bright-is = sym (sum-none _); dark-is = sym (sum-none _); bright-most = omega arith; dark-most = omega arith }
+  abbrev pub Bands : ℕ → ℕ → ℕ → ℕ → Type 0
+  Bands = Added (overBand maximum) (overBand minimum) 262140 0 (h / 4 * w)
 
-  pub bands-more : (bright dark at b r s : ℕ) → Bands w h x bright dark at b
+  pub bands-none : Bands 0 0 0 0
+  bands-none = added-none (overBand maximum) (overBand minimum) 262140 0 (h / 4 * w)
+
+  pub bands-more : (bright dark at b r s : ℕ) → Bands bright dark at b
       → (r ≡ bandOf maximum w (w / 4) (h / 4) at x) × (r ≤ 262140) → (s ≡ bandOf minimum w (w / 4) (h / 4) at x) × (s ≤ 262140)
-      → Bands w h x (bright + r) (dark + s) (at + h / 4 * w) (b + 1)
-  bands-more bright dark at b r s p er es =
-      let br = er .0 ∙ band-is maximum b at (p .at-is) in
-      let da = es .0 ∙ band-is minimum b at (p .at-is) in
-      record {
-        at-is = omega (arith, p .at-is, add-mul b 1 (h / 4), add-mul (b * (h / 4)) (h / 4) w);
-        bright-is = rw (sum-more b (λ k. sum 4 (λ a. maximum (tile w h x k a))), ← p .bright-is, ← br);
-        dark-is = rw (sum-more b (λ k. sum 4 (λ a. minimum (tile w h x k a))), ← p .dark-is, ← da);
-        bright-most = omega (arith, p .bright-most, er .1, add-mul b 1 262140);
-        dark-most = omega (arith, p .dark-most, es .1, add-mul b 1 262140);
-      }
+      → Bands (bright + r) (dark + s) (at + h / 4 * w) (b + 1)
+  bands-more bright dark at b r s p is-bright is-dark =
+      added-more (overBand maximum) (overBand minimum) 262140 0 (h / 4 * w) bright dark at b r s p
+      (is-bright .0 ∙ band-is maximum b at (p .at-is), is-bright .1)
+      (is-dark .0 ∙ band-is minimum b at (p .at-is), is-dark .1)
 
-  -- all four bands
-  pub bands-all : (bright dark at b : ℕ) → b ≡ 4 → Bands w h x bright dark at b → (bright ≡ overTiles maximum w h x) × (dark ≡ overTiles minimum w h x)
+  -- all four
+  pub bands-all : (bright dark at b : ℕ) → b ≡ 4 → Bands bright dark at b → (bright ≡ overTiles maximum w h x) × (dark ≡ overTiles minimum w h x)
   unfolding overTiles
   bands-all bright dark at b e p = (rw e at (p .bright-is), rw e at (p .dark-is))
 
   -- band b lies in the picture
-  pub band-inside : (at b : ℕ) → Tiled w h x → at ≡ b * (h / 4) * w → b < 4 → Band w (w / 4) (h / 4) at x
+  pub band-inside : (at b : ℕ) → Tiled w h x → at ≡ 0 + b * (h / 4 * w) → b < 4 → Band w (w / 4) (h / 4) at x
   band-inside at b t e p =
       let k : b * (h / 4) ≤ 3 * (h / 4) = mul-le-mul-right (h / 4) (omega arith) in
       let fours = t .by-four in

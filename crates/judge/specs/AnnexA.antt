@@ -13,8 +13,8 @@ pub record Fraction : Type 0 where
 abbrev pub over : ℕ → ℕ → Fraction
 over a b = record { upper = a; lower = b }
 
-abbrev pub AtMost : Fraction → Fraction → Type 0
-AtMost a b = a .upper * b .lower ≤ b .upper * a .lower
+abbrev pub NotMore : Fraction → Fraction → Type 0
+NotMore a b = a .upper * b .lower ≤ b .upper * a .lower
 
 abbrev pub times : Fraction → Fraction → Fraction
 times a b = over (a .upper * b .upper) (a .lower * b .lower)
@@ -28,7 +28,7 @@ average s = over (s .0) 128
 
 -- "the averages must satisfy 170 ≤ bright ≤ 245 and 10 ≤ dark ≤ 80"
 abbrev pub Within : ℕ → ℕ → Eighths → Type 0
-Within low high s = AtMost (over low 1) (average s) × AtMost (average s) (over high 1)
+Within low high s = NotMore (over low 1) (average s) × NotMore (average s) (over high 1)
 
 -- bright − dark
 abbrev pub apart : Eighths → Eighths → Fraction
@@ -42,7 +42,7 @@ deviationSquared N D = over D (64 * (N * N))
 -- or more says bright − dark − 1.38·s ≥ (q/100)·s for the deviation s, so that (q + 138)/100·s ≤ bright − dark; and here both
 -- sides are squared.
 abbrev pub RatioFrom : ℕ → Eighths → Eighths → ℕ → ℕ → Type 0
-RatioFrom N M m D q = AtMost (times (squared (over (q + 138) 100)) (deviationSquared N D)) (squared (apart M m))
+RatioFrom N M m D q = NotMore (times (squared (over (q + 138) 100)) (deviationSquared N D)) (squared (apart M m))
 
 -- "must be 10 or more"
 abbrev pub RatioTen : ℕ → Eighths → Eighths → ℕ → Type 0

@@ -1,6 +1,6 @@
 // The extremes (document 01: "The filtered picture is cut into 4×4 tiles of w/4 by h/4 pixels"), from
-// the smallest piece to the largest: a row of a tile, a tile, a band of four tiles side by side, the
-// picture's four bands.
+// the largest piece to the smallest: the picture's four bands, the four tiles of a band, a tile's rows,
+// a row's values.
 ghost use mathlib.Core.Path.{_≡_};
 ghost use Prim.Native.Nat.{_+_, _*_, _≤_, min, max};
 ghost use Rattle.judge.specs.Extremes.{most, least, maximum, minimum, bright, dark};
@@ -14,7 +14,7 @@ pub(crate) struct Extremes {
 }
 
 // The same sums over some tiles, before they are given their unit.
-struct Sums {
+struct Totals {
     bright: u64,
     dark: u64,
 }
@@ -38,9 +38,9 @@ pub(crate) fn of_tiles(x: &[u16], width: usize, height: usize) -> Extremes
     let mut at = 0usize;
     let mut b = 0usize;
     while b < 4 {
-        let sums = band_sums(x, width, wide, high, at);
-        bright += sums.bright;
-        dark += sums.dark;
+        let totals = band_totals(x, width, wide, high, at);
+        bright += totals.bright;
+        dark += totals.dark;
         at += band;
         b += 1;
     }
@@ -51,7 +51,7 @@ pub(crate) fn of_tiles(x: &[u16], width: usize, height: usize) -> Extremes
 }
 
 // The sums over a band: four tiles side by side, of which the first starts at `start`.
-fn band_sums(x: &[u16], width: usize, wide: usize, high: usize, start: usize) -> Sums
+fn band_totals(x: &[u16], width: usize, wide: usize, high: usize, start: usize) -> Totals
     requires { ⌜ Band width wide high start (now x) ⌝ }
     ensures { λ r. ⌜ (r .bright ≡ bandOf maximum width wide high start (now (x .entry))) × (r .bright ≤ 262140) ⌝ }
     ensures { λ r. ⌜ (r .dark ≡ bandOf minimum width wide high start (now (x .entry))) × (r .dark ≤ 262140) ⌝ }
@@ -67,10 +67,11 @@ fn band_sums(x: &[u16], width: usize, wide: usize, high: usize, start: usize) ->
         at += wide;
         a += 1;
     }
-    Sums { bright, dark }
+    Totals { bright, dark }
 }
 
-// The greatest and the least value of the part that starts at `start` and has `high` rows of `wide`.
+// The greatest and the least value of a tile: the part that starts at `start` and has `high` rows of
+// `wide`.
 fn part_ends(x: &[u16], width: usize, wide: usize, high: usize, start: usize) -> Ends
     requires { ⌜ Part width wide high start (now x) ⌝ }
     ensures { λ r. ⌜ (r .bright ≡ maximum (part width wide high start (now (x .entry)))) × (r .dark ≡ minimum (part width wide high start (now (x .entry)))) ⌝ }

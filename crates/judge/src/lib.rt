@@ -68,7 +68,7 @@ pub fn judge(count: u64, bright: Eighths, dark: Eighths, spread: u64) -> Verdict
 {
     let high = bright.amount();
     let low = dark.amount();
-    let number = tests(count, high, low, spread);
+    let number = ranges(count, high, low, spread);
     if number != table::DONE {
         return refuse(number);
     }
@@ -86,7 +86,7 @@ pub fn judge(count: u64, bright: Eighths, dark: Eighths, spread: u64) -> Verdict
 }
 
 // The number that the four alone decide, before any ratio.
-fn tests(count: u64, bright: u64, dark: u64, spread: u64) -> u8
+fn ranges(count: u64, bright: u64, dark: u64, spread: u64) -> u8
     ensures { λ r. ⌜ Tested count (eighths bright) (eighths dark) spread (λ n. r ≡ n) (r ≡ 0) ⌝ }
 {
     if count < 1 {

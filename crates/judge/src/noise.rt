@@ -9,7 +9,7 @@ ghost use Rattle.judge.specs.Noise.{spreadOf};
 ghost use Rattle.judge.specs.Asked.{Pair, dist, Sums};
 
 // The sums over some pixels: of d², of 8 times the levels, and of the filtered values.
-struct Part {
+struct ThreeSums {
     squares: u32,
     lights: u32,
     flats: u32,
@@ -39,7 +39,7 @@ pub(crate) fn spread(levels: &[u8], filtered: &[u16]) -> u64
 
 // The sums over a stretch of at most 1,024 pixels, which have room in 32 bits: so the compiler takes
 // four pixels at once.
-fn stretch(levels: &[u8], filtered: &[u16]) -> Part
+fn stretch(levels: &[u8], filtered: &[u16]) -> ThreeSums
     requires { ⌜ Pair 1024 (now levels) (now filtered) ⌝ }
     ensures { λ r. ⌜ Sums (now (levels .entry)) (now (filtered .entry)) (length (now (filtered .entry))) (r .squares) (r .lights) (r .flats) ⌝ }
 {
@@ -56,7 +56,7 @@ fn stretch(levels: &[u8], filtered: &[u16]) -> Part
         flats += flat as u32;
         k += 1;
     }
-    Part {
+    ThreeSums {
         squares,
         lights,
         flats,

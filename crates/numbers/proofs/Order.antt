@@ -1,8 +1,8 @@
--- Laws of order: of two numbers one is at most the other, where rows end, and the order of ℤ beside that of ℕ. Assumes nothing.
+-- Laws of order: of two numbers one is at most the other, of squares, where rows end, and the order of ℤ beside that of ℕ. Assumes nothing.
 use mathlib.Core.Path.{_≡_, refl}
 use mathlib.Core.Logic.{_⊎_, inl, inr}
 use Prim.Native.Nat.{ℕ, _+_, _*_, _<_, _≤_, zero-le}
-use native.Mathlib.Nat.{lt-of-not-le, lt-irrefl, mul-le-mul-right, suc-mul, mul-comm}
+use native.Mathlib.Nat.{lt-of-not-le, lt-irrefl, mul-le-mul, mul-le-mul-right, suc-mul, mul-comm}
 use native.Mathlib.Omega.{arith}
 use native.Mathlib.Decide.{decLe}
 use lib.Dec.{leb→le, le→leb}
@@ -16,6 +16,12 @@ le-or-lt m n = go (decLe m n)
     go : Dec (m ≤ n) → (m ≤ n) ⊎ (n < m)
     go (yes h) = inl h
     go (no h) = inr (lt-of-not-le h)
+
+-- where squares are in order, their roots are
+pub of-squares : {a b : ℕ} → a * a ≤ b * b → a ≤ b
+of-squares {a} {b} h =
+    let less : a < b + 1 = lt-of-not-le (λ (le : b + 1 ≤ a). omega (arith, mul-le-mul le le, h)) in
+    omega arith
 
 -- the order of natural numbers is the same in ℤ
 pub to-ℤ : {m n : ℕ} → m ≤ n → pos m ≤ℤ pos n

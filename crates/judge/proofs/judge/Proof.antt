@@ -17,8 +17,8 @@ amount-requires c κs = search needs
 amount-requires-2 : tie.Need-amount-requires-2
 amount-requires-2 c κs = search needs
 
-tests-requires : tie.Need-tests-requires
-tests-requires c κs = search needs
+ranges-requires : tie.Need-ranges-requires
+ranges-requires c κs = search needs
 
 refuse-requires : tie.Need-refuse-requires
 refuse-requires c κs = search needs
@@ -29,7 +29,7 @@ returns c =
     let a = t .before .before .before .args in
     let high = t .before .before .amount in
     let low = t .before .amount2 in
-    stopped (a .count) (a .bright) (a .dark) (a .spread) (high .result) (low .result) (t .tests .result) (high .ensures) (low .ensures) (t .tests .ensures)
+    stopped (a .count) (a .bright) (a .dark) (a .spread) (high .result) (low .result) (t .ranges .result) (high .ensures) (low .ensures) (t .ranges .ensures)
     (c .refuse .result) (c .before .if1 .taken) (c .refuse .ensures)
 
 -- none of the tests stopped it
@@ -39,7 +39,7 @@ past c =
     let a = t .before .before .before .args in
     let high = t .before .before .amount in
     let low = t .before .amount2 in
-    passed (a .count) (a .bright) (a .dark) (a .spread) (high .result) (low .result) (t .tests .result) (high .ensures) (low .ensures) (t .tests .ensures) (c .if1 .left)
+    passed (a .count) (a .bright) (a .dark) (a .spread) (high .result) (low .result) (t .ranges .result) (high .ensures) (low .ensures) (t .ranges .ensures) (c .if1 .left)
 
 -- so the ratio decides
 ratio-decides : (c : tie.After-ratio) (v : Verdict) → v .ratio ≡ c .ratio .result → Unless (1000 ≤ v .ratio) (v .number ≡ 9) (v .number ≡ 0)
@@ -50,7 +50,7 @@ ratio-decides c v is number =
     let high = t .before .before .amount in
     let low = t .before .amount2 in
     let ratio : RatioIs (a .count) (high .result - low .result) (a .spread) (v .ratio) = rw is (c .ratio .ensures) in
-    decided (a .count) (a .bright) (a .dark) (a .spread) (high .result) (low .result) (t .tests .result) (high .ensures) (low .ensures) (t .tests .ensures)
+    decided (a .count) (a .bright) (a .dark) (a .spread) (high .result) (low .result) (t .ranges .result) (high .ensures) (low .ensures) (t .ranges .ensures)
     v (c .before .if1 .left) ratio number
 
 sub-ratio : tie.Need-sub-ratio
@@ -71,7 +71,7 @@ judge-spec =
     (tie.spec
     amount-requires
     amount-requires-2
-    tests-requires
+    ranges-requires
     refuse-requires
     returns
     sub-ratio

@@ -34,8 +34,8 @@ inside c =
     let o = c .before .loop in
     band-inside (s .args .width) (s .args .height) (now (s .args .x)) (o .at) (o .b) (s .pre) (o .inv .1 .at-is) (c .loop-test .taken)
 
-band-sums-requires : tie.Need-band-sums-requires Inv-loop μ-loop
-band-sums-requires c κs = inside c
+band-totals-requires : tie.Need-band-totals-requires Inv-loop μ-loop
+band-totals-requires c κs = inside c
 
 add-bright : tie.Need-add-bright Inv-loop μ-loop
 add-bright c = omega arith
@@ -56,7 +56,7 @@ loop-again : tie.Need-loop-again Inv-loop μ-loop
 loop-again c =
     let a = c .before .before .before .before .before .before .args in
     let o = c .before .before .before .before .loop in
-    let r = c .before .before .band-sums in
+    let r = c .before .before .band-totals in
     (omega arith, bands-more (a .width) (a .height) (now (a .x)) (o .bright) (o .dark) (o .at) (o .b) (r .result .bright) (r .result .dark) (o .inv .1) (r .ensures .0) (r .ensures .1))
 
 of-requires : tie.Need-of-requires Inv-loop μ-loop
@@ -81,7 +81,7 @@ of-tiles-spec =
     μ-loop
     mul-band
     loop-holds
-    band-sums-requires
+    band-totals-requires
     add-bright
     add-dark
     add-at

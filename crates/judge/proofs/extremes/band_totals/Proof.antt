@@ -1,11 +1,11 @@
--- `judge::extremes::band_sums` meets its contract: after each part the two are the sums over the parts so far. Assumes nothing.
+-- `judge::extremes::band_totals` meets its contract: after each part the two are the sums over the parts so far. Assumes nothing.
 use Prim.Native.Nat.{_-_, _≤_}
 use native.Mathlib.Omega.{arith}
 use denote.Ref.{now}
 use Rattle.judge.specs.Asked.{Part}
 use Rattle.judge.proofs.Tiles.{Parts, parts-none, parts-more, parts-all, part-inside}
-use Rattle.judge.proofs.extremes.band_sums.Statement.{statement}
-use Rattle.judge.proofs.extremes.band_sums.Tie as tie
+use Rattle.judge.proofs.extremes.band_totals.Statement.{statement}
+use Rattle.judge.proofs.extremes.band_totals.Tie as tie
 
 abbrev Inv-loop : tie.InvT-loop
 Inv-loop x width wide high start bright₀ dark₀ at₀ a₀ bright dark at a = (a ≤ 4) × Parts width wide high start x bright dark at a
@@ -64,8 +64,8 @@ returns c =
     let o = c .before .loop in
     parts-all (a .width) (a .wide) (a .high) (a .start) (now (a .x)) (o .bright) (o .dark) (o .at) (o .a) (omega arith) (o .inv .1)
 
-pub band-sums-spec : {M : Type 1} → statement M
-band-sums-spec =
+pub band-totals-spec : {M : Type 1} → statement M
+band-totals-spec =
     tie.close
     (tie.spec
     Inv-loop

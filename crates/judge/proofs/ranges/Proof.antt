@@ -1,11 +1,11 @@
--- `judge::tests` meets its contract: each test is one end of a range, in the order of the definition. Assumes nothing.
+-- `judge::ranges` meets its contract: each test is one end of a range, in the order of the definition. Assumes nothing.
 use mathlib.Core.Path.{refl}
 use native.Mathlib.Omega.{arith}
 use Rattle.numbers.proofs.Refusals.{stops, goes-on}
 use Rattle.units.specs.Units.{eighths}
 use Rattle.judge.specs.Judge.{InRange}
-use Rattle.judge.proofs.tests.Statement.{statement}
-use Rattle.judge.proofs.tests.Tie as tie
+use Rattle.judge.proofs.ranges.Statement.{statement}
+use Rattle.judge.proofs.ranges.Tie as tie
 
 returns : tie.Need-returns
 returns c = stops (λ ok. omega (arith, ok)) refl
@@ -48,8 +48,8 @@ returns-11 c =
     goes-on (taken (c .before .before .before .before .before))
     (goes-on (omega arith, omega arith) (goes-on (omega arith, omega arith) (goes-on (c .if10 .left) refl)))
 
-pub tests-spec : {M : Type 1} → statement M
-tests-spec =
+pub ranges-spec : {M : Type 1} → statement M
+ranges-spec =
     tie.close
     (tie.spec
     returns
