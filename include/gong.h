@@ -86,8 +86,8 @@ uint8_t gong_filter(const uint8_t *levels, size_t levels_len, size_t width, size
 
 /* Whether a picture may be measured: it is filtered, and judged by what came of it.
  *   levels, width, height, output, work   as for gong_filter; width and height are multiples of 4
- *   ratio    receives the contrast-to-noise ratio in hundredths, rounded down, where the number is 0
- *            or 9; else 0
+ *   ratio    receives the contrast-to-noise ratio in hundredths, rounded down (0 where it is below 0),
+ *            where the number is 0 or 9; else 0
  * The filtered picture is cut into 4 by 4 tiles. Bright is the average of the sixteen tiles' maxima
  * and dark that of their minima; the noise is the deviation of the levels from the filtered ones. A
  * picture is discarded by 6 unless 170 <= bright <= 245, by 7 unless 10 <= dark <= 80, by 8 where
@@ -103,8 +103,8 @@ uint8_t gong_measure(const uint8_t *levels, size_t levels_len, size_t width, siz
  *   dark     m, the sum of their minima, likewise
  *   spread   D = N (sum of d^2) - (sum of d)^2, d being 8 times a level less its filtered eighths: at
  *            most 2^62
- *   ratio    receives the greatest whole q with (q + 138)^2 256 D <= 10,000 (M - m)^2 N^2, or 0 if
- *            there is none, where the number is 0 or 9; else 0
+ *   ratio    receives the greatest whole q from 0 with (q + 138)^2 256 D <= 10,000 (M - m)^2 N^2, or
+ *            0 if there is none, where the number is 0 or 9; else 0
  * Returns 0, or 6 to 9 for a picture that is discarded; or 15 where one of the four is out of range,
  * which is tested first. */
 uint8_t gong_judge(uint64_t count, uint64_t bright, uint64_t dark, uint64_t spread, uint64_t *ratio);

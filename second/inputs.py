@@ -88,20 +88,22 @@ def lent(rng, levels, width, height):
     return levels, width, height, (output, fill(rng)), (work, fill(rng))
 
 
-def micrograph(rng, width, height):
+def micrograph(rng, width, height, ground=None, noise=None):
     """Bright and dark stripes or squares, wide enough to outlast the filter, with more or less noise: of every verdict."""
-    dark, bright = rng.choice((
+    dark, bright = ground or rng.choice((
         lambda: (rng.randint(12, 78), rng.randint(172, 243)),
         lambda: (rng.randint(12, 78), rng.randint(172, 243)),
         lambda: (near(rng, 10, 80), near(rng, 170, 245)),
         lambda: (rng.randint(0, 120), rng.randint(130, 255)),
     ))()
-    across, down = rng.choice(((2, 10**9), (10**9, 2), (2, 2), (3, 4), (4, 3)))
-    noise = rng.choice((0, 0, 1, 2, 5, 10, 20, 40, 80))
+    noise = rng.choice((0, 0, 1, 2, 5, 10, 20, 40, 80)) if noise is None else noise
+    # the stripes run across the longer side, so that every tile has both; squares need tiles of 4×4
+    across, down = (2, 10**9) if width > height else (10**9, 2)
+    if min(width, height) >= 16:
+        across, down = rng.choice(((2, 10**9), (10**9, 2), (2, 2), (3, 4), (4, 3)))
 
     def level(x, y):
-        ground = bright if (x // across + y // down) % 2 else dark
-        return min(max(ground + rng.randint(-noise, noise), 0), 255)
+        return min(max((bright if (x // across + y // down) % 2 else dark) + rng.randint(-noise, noise), 0), 255)
     return [level(x, y) for y in range(height) for x in range(width)]
 
 
@@ -111,10 +113,11 @@ def measure_arguments(rng):
         return filter_arguments(rng)
     width, height = rng.choice((
         lambda: (4 * rng.randint(1, 4), 4 * rng.randint(1, 4)),
-        lambda: (4 * rng.randint(3, 6), 4 * rng.randint(3, 6)),
+        lambda: (4 * rng.randint(4, 6), 4 * rng.randint(4, 6)),
         lambda: (16, 16),
-        lambda: (4 * rng.randint(1, 2), 4 * rng.randint(1, 10)),
-        lambda: (4 * rng.randint(1, 10), 4 * rng.randint(1, 2)),
+        lambda: (4 * rng.randint(7, 12), 4 * rng.randint(7, 12)),
+        lambda: (4 * rng.randint(1, 2), 4 * rng.randint(4, 10)),
+        lambda: (4 * rng.randint(4, 10), 4 * rng.randint(1, 2)),
     ))()
     if rng.random() < 0.8:
         return lent(rng, micrograph(rng, width, height), width, height)
@@ -222,29 +225,31 @@ def endings():
 
 
 def small_sizes():
-    """Every size to 6×6; and every width to 27, where the columns between the first and the last are taken in eights."""
-    return [(width, height) for width in range(1, 7) for height in range(1, 7)] + [(width, 3) for width in range(7, 28)]
+    """Every size to 6×6, every width to 27, and the sizes to 20×20 that can be measured."""
+    sizes = [(width, height) for width in range(1, 7) for height in range(1, 7)] + [(width, 3) for width in range(7, 28)]
+    return sizes + [(4 * a, 4 * b) for a in range(1, 6) for b in range(1, 6) if a > 1 or b > 1]
 
 
 def every_kind(rng, width, height):
-    """One picture of each kind, of one size, filtered; and one measured."""
+    """One picture of each kind, of one size, filtered; one measured, and one micrograph."""
     made = b''
-    for letter, kind in [(b'f', kind) for kind in KINDS] + [(b'm', rng.choice(KINDS))]:
-        levels = picture(rng, kind, width, height)
+    asked = [(b'f', picture(rng, kind, width, height)) for kind in KINDS]
+    asked += [(b'm', picture(rng, rng.choice(KINDS), width, height)), (b'm', micrograph(rng, width, height))]
+    for letter, levels in asked:
         made += wire.encoded(letter, levels, width, height, (len(levels), fill(rng)), (len(levels), fill(rng)))
     return made
 
 
 def large(rng):
-    """The largest picture; the longest thin ones; slices and buffers as long as a request may have, and one longer."""
+    """The largest picture, filtered and measured; the longest thin ones; slices and buffers as long as a request may have."""
     whole = picture(rng, 'random', 1_024, 1_024)
     made = wire.encoded(b'f', whole, 1_024, 1_024, (len(whole) + 1, fill(rng)), (len(whole), fill(rng)))
-    seen = micrograph(rng, 1_024, 1_024)
+    seen = micrograph(rng, 1_024, 1_024, ground=(40, 200), noise=20)  # a ratio, whatever the seed
     made += wire.encoded(b'm', seen, 1_024, 1_024, (len(seen), fill(rng)), (len(seen) + 1, fill(rng)))
     for width, height in ((1_024, 1), (1, 1_024), (1_024, 2), (2, 1_024), (1_023, 3), (3, 1_023)):
         levels = picture(rng, rng.choice(KINDS), width, height)
         made += wire.encoded(b'f', levels, width, height, (len(levels), fill(rng)), (len(levels), fill(rng)))
-    for width, height in ((1_024, 4), (4, 1_024)):
+    for width, height in ((1_024, 4), (4, 1_024), (1_020, 4), (4, 1_020), (100, 84)):
         levels = micrograph(rng, width, height)
         made += wire.encoded(b'm', levels, width, height, (len(levels), fill(rng)), (len(levels), fill(rng)))
     made += wire.encoded(b'f', whole + [1], 1_024, 1_024, (2, 3), (0, 0))  # one level too many: 2

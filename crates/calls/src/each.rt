@@ -1,4 +1,4 @@
-// Each public call: its arguments read, the call made, its answer written. A function here says
+// Each public call: its arguments read, the call made, its answer written. A function that reads says
 // whether the request was whole; where it was not, nothing has been answered.
 ghost use Prim.Native.Nat.{_≤_};
 ghost use lib.ListN.{length};
@@ -66,12 +66,13 @@ fn picture_lent(
     let k = b.count;
     if letter == b'm' {
         measure(block, levels, width, height, &mut one[..j], &mut two[..k]);
-        return true;
+    } else {
+        filter(block, levels, width, height, &mut one[..j], &mut two[..k]);
     }
-    filter(block, levels, width, height, &mut one[..j], &mut two[..k]);
     true
 }
 
+// The calls themselves, and their answers.
 fn filter(
     block: &mut [u8],
     levels: &[u8],

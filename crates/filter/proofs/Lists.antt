@@ -1,4 +1,4 @@
--- Lists that are joined, or made element by element from others: how long they are and what stands where.
+-- Lists made element by element from others, and parts of lists: how long they are and what stands where.
 use mathlib.Core.Path.{_≡_, refl, sym, _∙_}
 use mathlib.Core.List.{List, [], _∷_, _++_, map, flatMap, map-append, map-map, append-assoc}
 use Prim.Native.Nat.{ℕ, zero, suc, _+_, _*_, _<_}

@@ -1,14 +1,13 @@
 -- What the filter may answer and leave: the sizes decide the number, and the number decides the rest.
-use mathlib.Core.Path.{_≡_, refl, sym, ap, _∙_}
+use mathlib.Core.Path.{_≡_, refl, ap}
 use mathlib.Core.List.{List, _++_}
 use mathlib.Core.Logic.{_⊎_, inl, inr}
 use Prim.Native.Nat.{ℕ, _*_, _≤_}
 use native.Mathlib.Omega.{arith}
 use lib.Dec.{lit≤}
 use lib.ListN.{length, drop}
-use Rattle.numbers.proofs.Refusals.{goes-on, carried, together}
+use Rattle.numbers.proofs.Refusals.{goes-on, past, alike, carried, together}
 use Rattle.numbers.specs.Lists.{AtMost}
-use Rattle.numbers.specs.Refusals.{Unless}
 use Rattle.filter.specs.Filter.{quarters, eighths, Side, Sized, Outcome, outcome, Filtered, FilterIs}
 use Rattle.filter.proofs.Ranges.{most-eighths}
 use Rattle.filter.proofs.Drawn.{length-eighths}
@@ -35,10 +34,7 @@ fits levels w h output work r z d =
 
 -- the sizes decide one number
 pub one-size : (levels w h output work r r' : ℕ) → Sized levels w h output work (λ n. r ≡ n) (r ≡ 0) → Sized levels w h output work (λ n. r' ≡ n) (r' ≡ 0) → r ≡ r'
-one-size levels w h output work r r' = together same (together same (together same (together same same)))
-  where
-    same : {n : ℕ} → r ≡ n → r' ≡ n → r ≡ r'
-    same p q = p ∙ sym q
+one-size levels w h output work r r' = together alike (together alike (together alike (together alike alike)))
 
 module _ (levels : List ℕ) (w h : ℕ) (output work : List ℕ) where
   -- a refused call: the number, and nothing written
@@ -63,12 +59,7 @@ module _ (levels : List ℕ) (w h : ℕ) (output work : List ℕ) where
 
   -- what a caller knows who has made sure of the sizes
   pub when-fits : (r : Outcome) → Fits (length levels) w h (length output) (length work) → FilterIs levels w h output work r → Filtered levels w h output work r
-  when-fits r f d =
-      past (f .long-work) (past (f .long-output) (past (f .all-levels) (past (f .sides) d)))
-    where
-      past : {P A B : Type 0} → P → Unless P A B → B
-      past p (inl a) = absurd (a .0 p)
-      past p (inr b) = b .1
+  when-fits r f d = past (f .long-work) (past (f .long-output) (past (f .all-levels) (past (f .sides) d)))
 
   -- what a caller reads off the number: 0 says that the sizes fit and the picture is filtered
   pub when-done : (r : Outcome) → r .number ≡ 0 → FilterIs levels w h output work r → Fits (length levels) w h (length output) (length work) × Filtered levels w h output work r
@@ -92,7 +83,5 @@ module _ (levels : List ℕ) (w h : ℕ) (output work : List ℕ) where
 
   pub one-outcome : (a b : Outcome) → FilterIs levels w h output work a → FilterIs levels w h output work b → a ≡ b
   one-outcome a b =
-      together refuse (together refuse (together refuse (together refuse (λ p q. same a b (p .number ∙ sym (q .number)) (p .pass-three ∙ sym (q .pass-three)) (p .pass-two ∙ sym (q .pass-two))))))
-    where
-      refuse : {n : ℕ} → a ≡ outcome n output work → b ≡ outcome n output work → a ≡ b
-      refuse p q = p ∙ sym q
+      together alike (together alike (together alike (together alike
+      (λ p q. same a b (alike (p .number) (q .number)) (alike (p .pass-three) (q .pass-three)) (alike (p .pass-two) (q .pass-two))))))

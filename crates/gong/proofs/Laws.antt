@@ -26,8 +26,8 @@ module _ (N M m D n q n' q' : ℕ) (this : JudgeIs N (eighths M) (eighths m) D (
   same-verdict : verdict n q ≡ verdict n' q'
   same-verdict = one-verdict N (eighths M) (eighths m) D (verdict n q) (verdict n' q') this that
 
-  pub one-ratio : (n ≡ n') × (q ≡ q')
-  one-ratio = (ap (λ (v : Verdict). v .number) same-verdict, ap (λ (v : Verdict). v .ratio) same-verdict)
+  pub one-judgement : (n ≡ n') × (q ≡ q')
+  one-judgement = (ap (λ (v : Verdict). v .number) same-verdict, ap (λ (v : Verdict). v .ratio) same-verdict)
 
 -- any two outcomes that `gong_length` is permitted, the number that it returns and the length that it writes, are equal
 module _ (factor : ℤ) (pixel : ℕ) (n q n' q' : ℕ) (this : LengthIs (sixteenths factor) (picometres pixel) (answer n q)) (that : LengthIs (sixteenths factor) (picometres pixel) (answer n' q')) where

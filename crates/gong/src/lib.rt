@@ -25,7 +25,7 @@ pub extern "C" fn gong_filter(
     filter::filter(levels, width, height, output, work)
 }
 
-// Measuring: the buffers as `gong_filter` leaves them, and the ratio in hundredths.
+// Measuring: the picture filtered, and the ratio in hundredths.
 #[no_mangle]
 pub extern "C" fn gong_measure(
     levels: &[u8],

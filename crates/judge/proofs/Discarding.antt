@@ -16,46 +16,48 @@ use Rattle.judge.specs.declared.Verdict.{Verdict}
 use Rattle.judge.specs.Extremes.{bright, dark}
 use Rattle.judge.specs.Judge.{InRange, BrightInRange, DarkInRange, Reaches, RatioIs, refused, JudgeIs}
 use Rattle.judge.specs.Measure.{Judged, Measurement, Measured}
-use Rattle.judge.specs.AnnexA.{Fraction, over, NotMore, times, squared, apart, deviationSquared, Within, RatioFrom, RatioTen, Unfit, Discarded, Exactly}
+use Rattle.judge.specs.AnnexA.{Fraction, over, NotMore, plus, times, squared, span, deviationSquared, Within, RatioFrom, RatioTen, Unfit, Discarded, Exactly}
 use Rattle.judge.proofs.Ratios.{reaches-falls}
 
--- "So q is the ratio in hundredths": the document's inequality is the annex's, with both sides divided by 64
-pub reaches-is : (N : ℕ) (M m : Eighths) (D q : ℕ) → Exactly (Reaches N (M .0 - m .0) D q) (RatioFrom N M m D q)
+-- "So q is the ratio in hundredths": the document's inequality is the annex's for q/100
+pub reaches-is : (N : ℕ) (M m : Eighths) (D q : ℕ) → Exactly (Reaches N (M .0 - m .0) D q) (RatioFrom N M m D (over q 100))
 reaches-is N M m D q = (λ h. omega (arith, h), λ h. omega (arith, h))
 
 -- "rounded down": the ratio is q hundredths or more, and not q + 1; or it is below 0, and q is 0
 pub rounded-down : (N : ℕ) (M m : Eighths) (D q : ℕ) → RatioIs N (M .0 - m .0) D q
-    → (RatioFrom N M m D q × (¬ RatioFrom N M m D (q + 1))) ⊎ (((k : ℕ) → ¬ RatioFrom N M m D k) × (q ≡ 0))
+    → (RatioFrom N M m D (over q 100) × (¬ RatioFrom N M m D (over (q + 1) 100))) ⊎ (((k : ℕ) → ¬ RatioFrom N M m D (over k 100)) × (q ≡ 0))
 rounded-down N M m D q (inl g) = inl (reaches-is N M m D q .0 (g .holds), λ t. next-has-not g (reaches-is N M m D (q + 1) .1 t))
 rounded-down N M m D q (inr n) = inr (λ k t. n .0 k (reaches-is N M m D k .1 t), n .1)
 
--- Annex A's deviation is a root, and for most pictures no fraction. The annex asks whether (q + 138)/100 deviations are at most
+-- and at 1,000 it is the annex's for 10
+ten-reaches : (N : ℕ) (M m : Eighths) (D : ℕ) → Exactly (Reaches N (M .0 - m .0) D 1000) (RatioTen N M m D)
+ten-reaches N M m D = (λ h. omega (arith, h), λ h. omega (arith, h))
+
+-- Annex A's deviation is a root, and for most pictures no fraction. The annex asks whether r + 1.38 deviations are at most
 -- bright − dark, and `RatioFrom` asks it squared. The two say the same: `RatioFrom` gives the plain inequality for every fraction
 -- s that is at most the deviation; and the plain inequality for one s that is at least the deviation gives `RatioFrom`. (Where the
 -- deviation is a fraction, s is the deviation itself.)
-module _ (N : ℕ) (M m : Eighths) (D q : ℕ) (s : Fraction) where
-  abbrev x : ℕ
-  x = q + 138
-
+module _ (N : ℕ) (M m : Eighths) (D : ℕ) (r s : Fraction) where
   abbrev Plain : Type 0
-  Plain = NotMore (times (over x 100) s) (apart M m)
+  Plain = NotMore (times (plus r (over 138 100)) s) (span M m)
 
-  pub below-deviation : 1 ≤ N → NotMore (squared s) (deviationSquared N D) → RatioFrom N M m D q → Plain
-  below-deviation some below ratio =
-      let t = s .lower in
-      let k = 64 * (N * N) in
-      let whole : 0 < k = omega (arith, mul-le-mul some some) in
-      of-squares (le-of-mul-le-mul-right
-      (omega (arith, mul-le-mul-left (x * x * 16384) below, mul-le-mul-right (t * t) ratio))
-      whole)
+  pub below-deviation : 1 ≤ N → NotMore (squared s) (deviationSquared N D) → RatioFrom N M m D r → Plain
+  below-deviation some below ratio = go (plus r (over 138 100) .upper) (plus r (over 138 100) .lower) ratio
+    where
+      go : (a b : ℕ) → NotMore (times (squared (over a b)) (deviationSquared N D)) (squared (span M m)) → NotMore (times (over a b) s) (span M m)
+      go a b ratio =
+          of-squares (le-of-mul-le-mul-right
+          (omega (arith, mul-le-mul-left (a * a * 16384) below, mul-le-mul-right (s .lower * s .lower) ratio))
+          (let whole : 0 < 64 * (N * N) = omega (arith, mul-le-mul some some) in whole))
 
-  pub above-deviation : 1 ≤ s .lower → NotMore (deviationSquared N D) (squared s) → Plain → RatioFrom N M m D q
-  above-deviation some above plain =
-      let t = s .lower in
-      let whole : 0 < t * t = omega (arith, mul-le-mul some some) in
-      le-of-mul-le-mul-right
-      (omega (arith, mul-le-mul-left (x * x * 16384) above, mul-le-mul-right (64 * (N * N)) (mul-le-mul plain plain)))
-      whole
+  pub above-deviation : 1 ≤ s .lower → NotMore (deviationSquared N D) (squared s) → Plain → RatioFrom N M m D r
+  above-deviation some above plain = go (plus r (over 138 100) .upper) (plus r (over 138 100) .lower) plain
+    where
+      go : (a b : ℕ) → NotMore (times (over a b) s) (span M m) → NotMore (times (squared (over a b)) (deviationSquared N D)) (squared (span M m))
+      go a b plain =
+          le-of-mul-le-mul-right
+          (omega (arith, mul-le-mul-left (a * a * 16384) above, mul-le-mul-right (64 * (N * N)) (mul-le-mul plain plain)))
+          (let whole : 0 < s .lower * s .lower = omega (arith, mul-le-mul some some) in whole)
 
 -- the range tests in eighths are the range tests in levels
 pub bright-is : (M : Eighths) → Exactly (BrightInRange M) (Within 170 245 M)
@@ -66,7 +68,7 @@ dark-is m = (λ p. (omega (arith, p), omega (arith, p)), λ p. (omega (arith, p)
 
 -- the ratio is 10 or more exactly where q is 1,000 or more
 pub ten-is : (N : ℕ) (M m : Eighths) (D q : ℕ) → RatioIs N (M .0 - m .0) D q → Exactly (1000 ≤ q) (RatioTen N M m D)
-ten-is N M m D q r = (λ p. reaches-is N M m D 1000 .0 (to r p), λ t. of r (reaches-is N M m D 1000 .1 t))
+ten-is N M m D q r = (λ p. ten-reaches N M m D .0 (to r p), λ t. of r (ten-reaches N M m D .1 t))
   where
     to : RatioIs N (M .0 - m .0) D q → 1000 ≤ q → Reaches N (M .0 - m .0) D 1000
     to (inl g) p = reaches-falls N (M .0 - m .0) D 1000 q p (g .holds)

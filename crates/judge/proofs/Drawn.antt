@@ -8,9 +8,8 @@ use native.Mathlib.Nat.{mul-le-mul-right, div-lt-iff-lt-mul, div-add-mod', mod-l
 use native.Mathlib.Decide.{decLe}
 use native.Mathlib.Omega.{arith}
 use lib.ListN.{length, getD, take, drop, length-take, length-drop}
-use lib.Seq.{getD-take, getD-drop}
 use Rattle.numbers.proofs.Order.{row-end}
-use Rattle.numbers.proofs.Lists.{length-joined, joined-at}
+use Rattle.numbers.proofs.Lists.{length-joined, joined-at, part-at}
 use Rattle.judge.specs.Extremes.{most, least, maximum, minimum, tile}
 use Rattle.judge.specs.Measure.{ByFour}
 
@@ -113,11 +112,10 @@ module _ (w h : ℕ) (x : List ℕ) (b a : ℕ) (whole : length x ≡ w * h) (ro
   unfolding tile
   tile-at j i p q =
       joined-at (h / 4) (w / 4) _ length-tile-row j i p q
-      ∙ getD-take (w / 4) (drop (start j) x) i 0 q
-      ∙ getD-drop (start j) x i 0
+      ∙ part-at (start j) (w / 4) x i q
       ∙ ap (λ (k : ℕ). getD x k 0) (omega arith)
 
--- the pixel in row y and column x of a picture whose sides are multiples of 4 lies in a tile, so that none is left out
+-- every pixel of a picture whose sides are multiples of 4 lies in a tile, so that none is left out
 module _ (w h : ℕ) (x : List ℕ) (whole : length x ≡ w * h) (fours : ByFour w h) (row column : ℕ) (inside : (row < h) × (column < w)) where
   -- which quarter of n a place lies in
   quarter : (n k : ℕ) → n % 4 ≡ 0 → k < n → (0 < n / 4) × (k / (n / 4) < 4)

@@ -95,7 +95,7 @@ every (r ∷ l) = elim (permitted (r .count) (r .bright) (r .dark) (r .spread) (
   | none ↦ none
 ]
 
--- N, M, m and D, then the number and q: the document's four; both ends of the range of M, and of that of m, each with the number
+-- N, M, m and D, then the number and q: the document's four; one that comes out otherwise where products wrap at 64 bits; both ends of the range of M, and of that of m, each with the number
 -- past it; no noise; and 15, which comes before 6
 abbrev pub table : List Row
 table =
@@ -103,6 +103,7 @@ table =
     ∷ row 256 25600 6400 943718400 9 862
     ∷ row 256 25600 7392 655360000 0 1000
     ∷ row 256 25600 7392 655360001 9 999
+    ∷ row 65536 25600 6400 35184372088832 0 1187
     ∷ row 256 21759 6400 419430400 6 0
     ∷ row 256 21760 6400 419430400 0 1062
     ∷ row 256 31360 6400 419430400 0 1812
@@ -120,11 +121,11 @@ unfolding decLe decLt ℕ-discrete both not when unless in-range back rated perm
 worked = get (every table) tt
 
 -- ---- tiles: 1 to 32, row by row, as a picture 8 wide and 4 high, and as one 4 wide and 8 high
-abbrev pub levels : List ℕ
-levels =
+abbrev pub values : List ℕ
+values =
     1 ∷ 2 ∷ 3 ∷ 4 ∷ 5 ∷ 6 ∷ 7 ∷ 8 ∷ 9 ∷ 10 ∷ 11 ∷ 12 ∷ 13 ∷ 14 ∷ 15 ∷ 16 ∷
     17 ∷ 18 ∷ 19 ∷ 20 ∷ 21 ∷ 22 ∷ 23 ∷ 24 ∷ 25 ∷ 26 ∷ 27 ∷ 28 ∷ 29 ∷ 30 ∷ 31 ∷ 32 ∷ []
 
-pub tiles : (overTiles maximum 8 4 levels ≡ 272) × (overTiles minimum 8 4 levels ≡ 256) × (overTiles maximum 4 8 levels ≡ 296) × (overTiles minimum 4 8 levels ≡ 232)
+pub tiles : (overTiles maximum 8 4 values ≡ 272) × (overTiles minimum 8 4 values ≡ 256) × (overTiles maximum 4 8 values ≡ 296) × (overTiles minimum 4 8 values ≡ 232)
 unfolding joined sum most least maximum minimum tile overTiles
 tiles = (refl, refl, refl, refl)

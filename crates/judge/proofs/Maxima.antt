@@ -52,7 +52,7 @@ unfolding least minimum
 minimum-is b [] p q = absurd (let no : ⊥ = omega arith in no)
 minimum-is b (x ∷ l) p q = let e : min b x ≡ x = omega (arith, q 0) in rw e
 
--- both are at most what every element is
+-- where every element is at most b, so are both
 most-most : (b a : ℕ) (l : List ℕ) → a ≤ b → AtMost b l → most a l ≤ b
 unfolding most
 most-most b a [] p q = p

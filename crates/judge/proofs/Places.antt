@@ -20,7 +20,7 @@ value-none : (l : List ℕ) → value l 0 ≡ 0
 unfolding value
 value-none l = refl
 
--- one place more counts that often as many numbers as the places below it can stand for
+-- place n counts 65,536^n times what stands in it
 value-more : (l : List ℕ) (n : ℕ) → value l (n + 1) ≡ value l n + getD l n 0 * 65536 ^ n
 unfolding value
 value-more l n = rw add-one

@@ -31,11 +31,11 @@ pub twice-is-square : (v x : ℕ) {once twice : ℕ} → once ≡ v * x → twic
 twice-is-square v x e f = rw (f, e) (omega arith)
 
 -- what the answer of a comparison says
-pub passed : (m n : ℕ) {r : Bool} → r ≡ leb m n → r ≡ true → m ≤ n
-passed m n e h = leb-true m n (sym e ∙ h)
+pub answered-yes : (m n : ℕ) {r : Bool} → r ≡ leb m n → r ≡ true → m ≤ n
+answered-yes m n e h = leb-true m n (sym e ∙ h)
 
-pub failed : (m n : ℕ) {r : Bool} → r ≡ leb m n → r ≡ false → ¬ (m ≤ n)
-failed m n e h = not-le-of-lt (leb-false m n (sym e ∙ h))
+pub answered-no : (m n : ℕ) {r : Bool} → r ≡ leb m n → r ≡ false → ¬ (m ≤ n)
+answered-no m n e h = not-le-of-lt (leb-false m n (sym e ∙ h))
 
 -- an answer from its contrary
 pub contrary : {r b : Bool} → not r ≡ b → r ≡ not b
@@ -46,41 +46,41 @@ contrary {r} h = sym (Bool·not-not r) ∙ ap not h
 abbrev pub BelowRoot : ℕ → ℕ → Type 0
 BelowRoot d p = (1 ≤ p) × (p ≤ 2 ^ 31) × (p * p ≤ d) × (d < 4 * (p * p))
 
--- `left` is d divided by 4, rounded down, as often as the power was doubled
-pub record Quartered (d power left : ℕ) : Type 0 where
+-- `rest` is d divided by 4, rounded down, as often as the power was doubled
+pub record Quartered (d power rest : ℕ) : Type 0 where
   pub power-some : 1 ≤ power
-  pub left-some : 1 ≤ left
-  pub low : power * power * left ≤ d
-  pub high : d < power * power * (left + 1)
+  pub rest-some : 1 ≤ rest
+  pub low : power * power * rest ≤ d
+  pub high : d < power * power * (rest + 1)
 
 -- before the first turn
 pub quartered-none : {d : ℕ} → 1 ≤ d → Quartered d 1 d
-quartered-none h = record { power-some = omega arith; left-some = h; low = omega arith; high = omega arith }
+quartered-none h = record { power-some = omega arith; rest-some = h; low = omega arith; high = omega arith }
 
-module _ {d power left : ℕ} (q : Quartered d power left) where
+module _ {d power rest : ℕ} (q : Quartered d power rest) where
   -- one turn more
-  pub quartered-more : 4 ≤ left → Quartered d (power * 2) (left / 4)
+  pub quartered-more : 4 ≤ rest → Quartered d (power * 2) (rest / 4)
   quartered-more h =
       let square = power * power in
-      let down : 4 * (left / 4) ≤ left = omega arith in
-      let up : left + 1 ≤ 4 * (left / 4 + 1) = omega arith in
+      let down : 4 * (rest / 4) ≤ rest = omega arith in
+      let up : rest + 1 ≤ 4 * (rest / 4 + 1) = omega arith in
       record {
         power-some = omega (arith, q .power-some);
-        left-some = omega arith;
+        rest-some = omega arith;
         low = omega (arith, mul-le-mul-left square down, q .low);
         high = omega (arith, mul-le-mul-left square up, q .high);
       }
 
   -- the power's square is at most d all along
   square-most : power * power ≤ d
-  square-most = omega (arith, mul-le-mul-left (power * power) (q .left-some), q .low)
+  square-most = omega (arith, mul-le-mul-left (power * power) (q .rest-some), q .low)
 
   -- so the power has at most half the bits
   pub power-most : d ≤ 2 ^ 62 → power ≤ 2 ^ 31
   power-most h = of-squares (le-trans square-most h)
 
   -- after the last turn the power is the one below the root
-  pub quartered-last : d ≤ 2 ^ 62 → left ≤ 3 → BelowRoot d power
+  pub quartered-last : d ≤ 2 ^ 62 → rest ≤ 3 → BelowRoot d power
   quartered-last h last =
       (q .power-some, power-most h, square-most, omega (arith, mul-le-mul-left (power * power) last, q .high))
 

@@ -1,6 +1,6 @@
 -- Laws of the noise: D in natural numbers, that it is never below 0 and at most 2^62, and the sums that the loops gather for it.
 -- Assumes nothing.
-use mathlib.Core.Path.{_≡_, refl, sym, subst, _∙_}
+use mathlib.Core.Path.{_≡_, refl, sym, subst}
 use mathlib.Core.Logic.{⊎-elim}
 use mathlib.Core.List.{List}
 use Prim.Native.Nat.{ℕ, zero, suc, _+_, _-_, _*_, _<_, _≤_, _^_}
@@ -8,14 +8,13 @@ use native.Mathlib.Nat.{mul-le-mul, le-trans, le-antisymm}
 use native.Mathlib.Numerals.{add-one}
 use native.Mathlib.Omega.{arith}
 use lib.IntN.{pos, _-ℤ_}
-use lib.ListN.{length, getD, take, drop, length-take, length-drop}
-use lib.Seq.{getD-take, getD-drop}
+use lib.ListN.{length, take, drop, length-take, length-drop}
 use Rattle.numbers.specs.Signed.{natOf, square}
 use Rattle.numbers.specs.Lists.{AtMost}
 use Rattle.numbers.specs.Sums.{sum}
 use Rattle.numbers.proofs.Order.{le-or-lt}
 use Rattle.numbers.proofs.Differences.{pos-minus, sub-pos, sub-neg}
-use Rattle.numbers.proofs.Lists.{most-take, most-drop}
+use Rattle.numbers.proofs.Lists.{part-at, most-take, most-drop}
 use Rattle.numbers.proofs.Sums.{sum-none, sum-more, sum-goes-on, square-of-sum, sum-natural, sum-minus}
 use Rattle.judge.specs.Noise.{difference, spreadOf}
 use Rattle.judge.specs.Asked.{Pair, dist, light, flat, gap, Sums}
@@ -41,12 +40,12 @@ module _ (n : ℕ) (levels filtered : List ℕ) where
 
   -- how far the sum of d is from 0
   abbrev awayOf : ℕ
-  awayOf = dist (sum n (light levels filtered)) (sum n (flat levels filtered))
+  awayOf = dist (sum n (light levels)) (sum n (flat filtered))
 
   -- the square of the sum is at most n times the sum of the squares
   never-wraps : awayOf * awayOf ≤ n * squaresOf
   never-wraps =
-      let apart = sums-apart n (light levels filtered) (flat levels filtered) in
+      let apart = sums-apart n (light levels) (flat filtered) in
       le-trans (mul-le-mul apart apart) (square-of-sum (gap levels filtered) n)
 
   -- so D is the one less the other, in natural numbers
@@ -54,8 +53,8 @@ module _ (n : ℕ) (levels filtered : List ℕ) where
   unfolding spreadOf
   in-naturals =
       let g = gap levels filtered in
-      let l = light levels filtered in
-      let f = flat levels filtered in
+      let l = light levels in
+      let f = flat filtered in
       rw (
         sum-natural n (λ k. square (difference levels filtered k)) (λ k. g k * g k) (λ k. square-apart (l k) (f k)),
         sum-minus n l f,
@@ -73,8 +72,8 @@ pub sums-none : (levels filtered : List ℕ) → Sums levels filtered 0 0 0 0
 sums-none levels filtered =
     record {
       squares-is = sym (sum-none (λ k. gap levels filtered k * gap levels filtered k));
-      lights-is = sym (sum-none (light levels filtered));
-      flats-is = sym (sum-none (flat levels filtered));
+      lights-is = sym (sum-none (light levels));
+      flats-is = sym (sum-none (flat filtered));
       squares-most = omega arith;
       lights-most = omega arith;
       flats-most = omega arith;
@@ -82,15 +81,15 @@ sums-none levels filtered =
 
 -- the sums with one pixel more, where a is 8 times its level and d how far the filtered value is from it
 pub sums-more : (levels filtered : List ℕ) {k squares lights flats a d : ℕ} → AtMost 2040 filtered
-    → (a ≡ light levels filtered k) × (a ≤ 2040) → d ≡ dist a (flat levels filtered k)
-    → Sums levels filtered k squares lights flats → Sums levels filtered (k + 1) (squares + d * d) (lights + a) (flats + flat levels filtered k)
+    → (a ≡ light levels k) × (a ≤ 2040) → d ≡ dist a (flat filtered k)
+    → Sums levels filtered k squares lights flats → Sums levels filtered (k + 1) (squares + d * d) (lights + a) (flats + flat filtered k)
 sums-more levels filtered {k} {squares} {lights} {flats} {a} {d} small lit apart s =
     let near : d ≤ 2040 = omega (arith, lit .1, small k) in
     let is : d ≡ gap levels filtered k = rw (lit .0) at apart in
     record {
       squares-is = rw (sum-more k (λ j. gap levels filtered j * gap levels filtered j), ← s .squares-is, ← is);
-      lights-is = rw (sum-more k (light levels filtered), ← s .lights-is, ← lit .0);
-      flats-is = rw (sum-more k (flat levels filtered), ← s .flats-is);
+      lights-is = rw (sum-more k (light levels), ← s .lights-is, ← lit .0);
+      flats-is = rw (sum-more k (flat filtered), ← s .flats-is);
       squares-most = omega (arith, s .squares-most, mul-le-mul near near);
       lights-most = omega (arith, s .lights-most, lit .1);
       flats-most = omega (arith, s .flats-most, small k);
@@ -101,10 +100,6 @@ pub sums-done : {levels filtered : List ℕ} {k n squares lights flats : ℕ} �
     → Sums levels filtered k squares lights flats → Sums levels filtered n squares lights flats
 sums-done {levels} {filtered} {k} {n} {squares} {lights} {flats} h g s =
     subst (λ (m : ℕ). Sums levels filtered m squares lights flats) (le-antisymm h g) s
-
--- what stands at a place of a part
-part-at : (a n : ℕ) (x : List ℕ) (k : ℕ) → k < n → getD (take n (drop a x)) k 0 ≡ getD x (a + k) 0
-part-at a n x k h = getD-take n (drop a x) k 0 h ∙ getD-drop a x k 0
 
 module _ (levels filtered : List ℕ) (at n : ℕ) where
   abbrev levels' : List ℕ
@@ -120,18 +115,18 @@ module _ (levels filtered : List ℕ) (at n : ℕ) where
       let g = gap levels filtered in
       let g' = gap levels' filtered' in
       let apart : (k : ℕ) → k < n → g' k * g' k ≡ g (at + k) * g (at + k) = λ k h. rw (part-at at n levels k h, part-at at n filtered k h) in
-      let lit : (k : ℕ) → k < n → light levels' filtered' k ≡ light levels filtered (at + k) = λ k h. rw (part-at at n levels k h) in
+      let lit : (k : ℕ) → k < n → light levels' k ≡ light levels (at + k) = λ k h. rw (part-at at n levels k h) in
       record {
         squares-is = rw (p .squares-is, q .squares-is) (sum-goes-on at n (λ k. g k * g k) (λ k. g' k * g' k) apart);
-        lights-is = rw (p .lights-is, q .lights-is) (sum-goes-on at n (light levels filtered) (light levels' filtered') lit);
-        flats-is = rw (p .flats-is, q .flats-is) (sum-goes-on at n (flat levels filtered) (flat levels' filtered') (part-at at n filtered));
+        lights-is = rw (p .lights-is, q .lights-is) (sum-goes-on at n (light levels) (light levels') lit);
+        flats-is = rw (p .flats-is, q .flats-is) (sum-goes-on at n (flat filtered) (flat filtered') (part-at at n filtered));
         squares-most = omega (arith, p .squares-most, q .squares-most);
         lights-most = omega (arith, p .lights-most, q .lights-most);
         flats-most = omega (arith, p .flats-most, q .flats-most);
       }
 
 -- the stretch of a picture from `at` to `end`
-module _ {most : ℕ} (levels filtered : List ℕ) (pair : Pair most levels filtered) (at end : ℕ) (up : at ≤ end) (in-it : end ≤ length filtered) where
+module _ {bound : ℕ} (levels filtered : List ℕ) (pair : Pair bound levels filtered) (at end : ℕ) (up : at ≤ end) (in-it : end ≤ length filtered) where
   long : length (take (end - at) (drop at filtered)) ≡ end - at
   long = simp (length-take, length-drop) (omega arith)
 
@@ -166,7 +161,7 @@ module _ {levels filtered : List ℕ} {n squares lights flats : ℕ} (s : Sums l
 
 -- the sums of any picture
 all-sums : (n : ℕ) (levels filtered : List ℕ) → AtMost 255 levels → AtMost 2040 filtered
-    → Sums levels filtered n (squaresOf n levels filtered) (sum n (light levels filtered)) (sum n (flat levels filtered))
+    → Sums levels filtered n (squaresOf n levels filtered) (sum n (light levels)) (sum n (flat filtered))
 unfolding sum
 all-sums zero levels filtered bytes small = sums-none levels filtered
 all-sums (suc n) levels filtered bytes small =

@@ -78,20 +78,20 @@ part-inside w wide high start at a x p e h =
     record { columns = p .columns; rows = p .rows; row-long = p .row-long; inside = omega (arith, before, last, p .inside, p .four); long = p .long }
 
 -- what a loop that adds f 0, f 1, .. to one sum and g 0, g 1, .. to another knows after n turns, `step` places each
-pub record Added (f g : ℕ → ℕ) (most start step : ℕ) (bright dark at n : ℕ) : Type 0 where
+pub record Added (f g : ℕ → ℕ) (bound start step : ℕ) (bright dark at n : ℕ) : Type 0 where
   pub at-is : at ≡ start + n * step
   pub bright-is : bright ≡ sum n f
   pub dark-is : dark ≡ sum n g
-  pub bright-most : bright ≤ n * most
-  pub dark-most : dark ≤ n * most
+  pub bright-most : bright ≤ n * bound
+  pub dark-most : dark ≤ n * bound
 
-module _ (f g : ℕ → ℕ) (most start step : ℕ) where
-  added-none : Added f g most start step 0 0 start 0
+module _ (f g : ℕ → ℕ) (bound start step : ℕ) where
+  added-none : Added f g bound start step 0 0 start 0
   added-none =
       record { at-is = omega arith; bright-is = sym (sum-none f); dark-is = sym (sum-none g); bright-most = omega arith; dark-most = omega arith }
 
-  added-more : (bright dark at n r s : ℕ) → Added f g most start step bright dark at n → (r ≡ f n) × (r ≤ most) → (s ≡ g n) × (s ≤ most)
-      → Added f g most start step (bright + r) (dark + s) (at + step) (n + 1)
+  added-more : (bright dark at n r s : ℕ) → Added f g bound start step bright dark at n → (r ≡ f n) × (r ≤ bound) → (s ≡ g n) × (s ≤ bound)
+      → Added f g bound start step (bright + r) (dark + s) (at + step) (n + 1)
   added-more bright dark at n r s so-far is-f is-g =
       record {
         at-is = omega (arith, so-far .at-is);
@@ -185,8 +185,7 @@ module _ (w h : ℕ) (x : List ℕ) where
   -- the sums over sixteen tiles are at most sixteen times what every value is
   module _ (f : List ℕ → ℕ) (b : ℕ) (p : (l : List ℕ) → AtMost b l → f l ≤ b) (q : AtMost b x) where
     tile-most : (k a : ℕ) → f (tile w h x k a) ≤ b
-    unfolding tile
-    tile-most k a = p _ (most-joined b (h / 4) _ (λ j. most-take b (w / 4) _ (most-drop b ((k * (h / 4) + j) * w + a * (w / 4)) x q)))
+    tile-most k a = p (tile w h x k a) (rw (tile-is w h k a x) at (part-most b w (w / 4) (h / 4) (k * (h / 4) * w + a * (w / 4)) x q))
 
     pub tiles-most : overTiles f w h x ≤ 16 * b
     unfolding overTiles

@@ -1,9 +1,9 @@
 -- The judge and measuring are determined: any two answers that a promise permits are equal. Assumes nothing.
-use mathlib.Core.Path.{_≡_, sym, ap, _∙_}
+use mathlib.Core.Path.{_≡_, ap}
 use mathlib.Core.List.{List}
 use Prim.Native.Nat.{ℕ, _-_, _*_}
 use Rattle.numbers.specs.Signed.{natOf}
-use Rattle.numbers.proofs.Refusals.{together}
+use Rattle.numbers.proofs.Refusals.{alike, together}
 use Rattle.units.specs.declared.Eighths.{Eighths}
 use Rattle.filter.specs.Filter.{eighths}
 use Rattle.judge.specs.declared.Verdict.{Verdict}
@@ -11,10 +11,6 @@ use Rattle.judge.specs.Extremes.{bright, dark}
 use Rattle.judge.specs.Judge.{Rated, verdict, JudgeIs}
 use Rattle.judge.proofs.Ratios.{one-ratio}
 use Rattle.judge.specs.Measure.{Judged, Measurement, measurement, Measured, MeasureIs}
-
--- two that are equal to a third
-alike : {A : Type 0} {x y z : A} → x ≡ z → y ≡ z → x ≡ y
-alike p q = p ∙ sym q
 
 -- two verdicts past all tests have one ratio, and so one number
 module _ (N : ℕ) (M m : Eighths) (D : ℕ) (v v' : Verdict) where

@@ -1,11 +1,12 @@
--- When a picture is discarded, as 001 puts it in Annex A and document 01 after it: in averages, contrast and deviation, and with
--- none of the judge's constants. Fractions are compared by cross products, and nothing is rounded.
+-- When a picture is discarded, in document 01's averages, contrast and deviation (001, Annex A; "10 or more" is 001's 4.7, 6.1 b
+-- and 6.2). No promise cites this: it is what the lecturer reads beside Judge.antt, and proofs/Discarding.antt shows that the two
+-- say the same. Fractions are compared by cross products, and nothing is rounded.
 use mathlib.Core.Path.{_≡_}
 use mathlib.Core.Logic.{_⊎_}
 use Prim.Native.Nat.{ℕ, _+_, _-_, _*_, _≤_}
 use Rattle.units.specs.declared.Eighths.{Eighths}
 
--- a fraction of two whole numbers, the lower one at least 1
+-- a fraction of two whole numbers (each lower one below is at least 1, where N is)
 pub record Fraction : Type 0 where
   pub upper : ℕ
   pub lower : ℕ
@@ -15,6 +16,9 @@ over a b = record { upper = a; lower = b }
 
 abbrev pub NotMore : Fraction → Fraction → Type 0
 NotMore a b = a .upper * b .lower ≤ b .upper * a .lower
+
+abbrev pub plus : Fraction → Fraction → Fraction
+plus a b = over (a .upper * b .lower + b .upper * a .lower) (a .lower * b .lower)
 
 abbrev pub times : Fraction → Fraction → Fraction
 times a b = over (a .upper * b .upper) (a .lower * b .lower)
@@ -30,23 +34,23 @@ average s = over (s .0) 128
 abbrev pub Within : ℕ → ℕ → Eighths → Type 0
 Within low high s = NotMore (over low 1) (average s) × NotMore (average s) (over high 1)
 
--- bright − dark
-abbrev pub apart : Eighths → Eighths → Fraction
-apart M m = over (M .0 - m .0) 128
+-- bright − dark (where both are within their ranges bright is the greater)
+abbrev pub span : Eighths → Eighths → Fraction
+span M m = over (M .0 - m .0) 128
 
 -- "The noise deviation squared is D/(64·N²)."
 abbrev pub deviationSquared : ℕ → ℕ → Fraction
 deviationSquared N D = over D (64 * (N * N))
 
--- "Image contrast is (bright − dark) less 1.38 deviations; the ratio is contrast over deviation": that this ratio is q hundredths
--- or more says bright − dark − 1.38·s ≥ (q/100)·s for the deviation s, so that (q + 138)/100·s ≤ bright − dark; and here both
--- sides are squared.
-abbrev pub RatioFrom : ℕ → Eighths → Eighths → ℕ → ℕ → Type 0
-RatioFrom N M m D q = NotMore (times (squared (over (q + 138) 100)) (deviationSquared N D)) (squared (apart M m))
+-- "Image contrast is (bright − dark) less 1.38 deviations; the ratio is contrast over deviation": that this ratio is r or more says
+-- bright − dark − 1.38·s ≥ r·s for the deviation s, so that (r + 1.38)·s ≤ bright − dark; and here both sides are squared, since s
+-- is a root.
+abbrev pub RatioFrom : ℕ → Eighths → Eighths → ℕ → Fraction → Type 0
+RatioFrom N M m D r = NotMore (times (squared (plus r (over 138 100))) (deviationSquared N D)) (squared (span M m))
 
 -- "must be 10 or more"
 abbrev pub RatioTen : ℕ → Eighths → Eighths → ℕ → Type 0
-RatioTen N M m D = RatioFrom N M m D 1000
+RatioTen N M m D = RatioFrom N M m D (over 10 1)
 
 -- a stated range is left, the noise is nil or the ratio is below 10
 abbrev pub Unfit : ℕ → Eighths → Eighths → ℕ → Type 0

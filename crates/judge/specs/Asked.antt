@@ -1,4 +1,4 @@
--- What the functions inside the crate ask of what they are given, and what their loops have gathered.
+-- What the functions inside the crate ask of what they are given, and what their loops have gathered. No promise cites this.
 use mathlib.Core.Path.{_≡_}
 use mathlib.Core.List.{List}
 use Prim.Native.Nat.{ℕ, _+_, _-_, _*_, _≤_}
@@ -40,10 +40,10 @@ pub record Band (w wide high start : ℕ) (x : List ℕ) : Type 0 where
   pub inside : start + high * w ≤ length x
   pub long : length x ≤ 1048576
 
--- at most `most` levels, and the same number of filtered values
-pub record Pair (most : ℕ) (levels filtered : List ℕ) : Type 0 where
+-- at most `bound` levels, and the same number of filtered values, each at most 2,040
+pub record Pair (bound : ℕ) (levels filtered : List ℕ) : Type 0 where
   pub same : length levels ≡ length filtered
-  pub long : length filtered ≤ most
+  pub long : length filtered ≤ bound
   pub small : AtMost 2040 filtered
 
 -- how far two numbers are apart
@@ -51,21 +51,20 @@ abbrev pub dist : ℕ → ℕ → ℕ
 dist a b = (a - b) + (b - a)
 
 -- what stands at pixel k: 8 times the level, the filtered eighths, and how far they are apart
-module _ (levels filtered : List ℕ) where
-  abbrev pub light : ℕ → ℕ
-  light k = 8 * getD levels k 0
+abbrev pub light : List ℕ → ℕ → ℕ
+light levels k = 8 * getD levels k 0
 
-  abbrev pub flat : ℕ → ℕ
-  flat k = getD filtered k 0
+abbrev pub flat : List ℕ → ℕ → ℕ
+flat filtered k = getD filtered k 0
 
-  abbrev pub gap : ℕ → ℕ
-  gap k = dist (light k) (flat k)
+abbrev pub gap : List ℕ → List ℕ → ℕ → ℕ
+gap levels filtered k = dist (light levels k) (flat filtered k)
 
 -- the three sums over the first n pixels: of the squared differences, and of the two terms whose difference d is
 pub record Sums (levels filtered : List ℕ) (n squares lights flats : ℕ) : Type 0 where
   pub squares-is : squares ≡ sum n (λ k. gap levels filtered k * gap levels filtered k)
-  pub lights-is : lights ≡ sum n (light levels filtered)
-  pub flats-is : flats ≡ sum n (flat levels filtered)
+  pub lights-is : lights ≡ sum n (light levels)
+  pub flats-is : flats ≡ sum n (flat filtered)
   pub squares-most : squares ≤ n * 4161600
   pub lights-most : lights ≤ n * 2040
   pub flats-most : flats ≤ n * 2040

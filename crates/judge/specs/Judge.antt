@@ -36,13 +36,13 @@ pub record Rated (N : ℕ) (M m : Eighths) (D : ℕ) (v : Verdict) : Type 0 wher
   pub number : Unless (1000 ≤ v .ratio) (v .number ≡ 9) (v .number ≡ 0)
 
 -- "15 is tested before 6 to 9 in the judge": "judge's input .. out of range", "M out of range", "m out of range", "D = 0".
--- `refused n` says what holds where n comes back, `rated` what holds past all four.
+-- `back n` says what holds where n comes back, `rated` what holds past all four.
 abbrev pub Tested : ℕ → Eighths → Eighths → ℕ → (ℕ → Type 0) → Type 0 → Type 0
-Tested N M m D refused rated =
-    Unless (InRange N M m D) (refused 15)
-    (Unless (BrightInRange M) (refused 6)
-    (Unless (DarkInRange m) (refused 7)
-    (Unless (¬ (D ≡ 0)) (refused 8)
+Tested N M m D back rated =
+    Unless (InRange N M m D) (back 15)
+    (Unless (BrightInRange M) (back 6)
+    (Unless (DarkInRange m) (back 7)
+    (Unless (¬ (D ≡ 0)) (back 8)
     rated)))
 
 -- a verdict by its two numbers, and a refusal: "All other returned numbers are 0"

@@ -21,8 +21,8 @@ struct Totals {
 
 // The greatest and the least value of a part.
 struct Ends {
-    bright: u16,
-    dark: u16,
+    most: u16,
+    least: u16,
 }
 
 // M and m of a filtered picture.
@@ -62,8 +62,8 @@ fn band_totals(x: &[u16], width: usize, wide: usize, high: usize, start: usize) 
     let mut a = 0usize;
     while a < 4 {
         let ends = part_ends(x, width, wide, high, at);
-        bright += ends.bright as u64;
-        dark += ends.dark as u64;
+        bright += ends.most as u64;
+        dark += ends.least as u64;
         at += wide;
         a += 1;
     }
@@ -74,40 +74,37 @@ fn band_totals(x: &[u16], width: usize, wide: usize, high: usize, start: usize) 
 // `wide`.
 fn part_ends(x: &[u16], width: usize, wide: usize, high: usize, start: usize) -> Ends
     requires { ⌜ Part width wide high start (now x) ⌝ }
-    ensures { λ r. ⌜ (r .bright ≡ maximum (part width wide high start (now (x .entry)))) × (r .dark ≡ minimum (part width wide high start (now (x .entry)))) ⌝ }
+    ensures { λ r. ⌜ (r .most ≡ maximum (part width wide high start (now (x .entry)))) × (r .least ≡ minimum (part width wide high start (now (x .entry)))) ⌝ }
 {
-    let mut bright = 0u16;
-    let mut dark = 65535u16;
+    let mut most = 0u16;
+    let mut least = 65535u16;
     let mut at = start;
     let mut j = 0usize;
     while j < high {
         let end = at + wide;
-        let ends = row_ends(&x[at..end], bright, dark);
-        bright = ends.bright;
-        dark = ends.dark;
+        let ends = row_ends(&x[at..end], most, least);
+        most = ends.most;
+        least = ends.least;
         at += width;
         j += 1;
     }
-    Ends { bright, dark }
+    Ends { most, least }
 }
 
-// The greatest and the least of a row's values and the two so far.
-fn row_ends(row: &[u16], bright: u16, dark: u16) -> Ends
-    ensures { λ r. ⌜ (r .bright ≡ most bright (now (row .entry))) × (r .dark ≡ least dark (now (row .entry))) ⌝ }
+// The greatest and the least of a row's values and of those so far.
+fn row_ends(row: &[u16], top: u16, bottom: u16) -> Ends
+    ensures { λ r. ⌜ (r .most ≡ most top (now (row .entry))) × (r .least ≡ least bottom (now (row .entry))) ⌝ }
 {
-    let mut high = bright;
-    let mut low = dark;
+    let mut most = top;
+    let mut least = bottom;
     let mut i = 0usize;
     while i < row.len() {
         let v = row[i];
-        high = larger(high, v);
-        low = smaller(low, v);
+        most = larger(most, v);
+        least = smaller(least, v);
         i += 1;
     }
-    Ends {
-        bright: high,
-        dark: low,
-    }
+    Ends { most, least }
 }
 
 fn larger(a: u16, b: u16) -> u16

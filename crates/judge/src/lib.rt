@@ -1,6 +1,6 @@
 // Whether a picture may be measured (document 01, "Extremes and noise"): extremes.rt has the sums M
-// and m of the tiles' extremes, noise.rt has D, ratio.rt the ratio q, whose numbers outgrow 64 bits,
-// and wide.rt such numbers.
+// and m of the tiles' extremes, noise.rt has D, ratio.rt the ratio q, found by comparing numbers that
+// outgrow 64 bits, and wide.rt such numbers.
 ghost use mathlib.Core.Path.{_≡_};
 ghost use Prim.Native.Nat.{_*_};
 ghost use lib.ListN.{length};
@@ -55,9 +55,9 @@ fn judge_picture(levels: &[u8], filtered: &[u16], width: usize, height: usize) -
     requires { ⌜ Tiled width height (now filtered) × (length (now levels) ≡ width * height) ⌝ }
     ensures { λ r. ⌜ Judged (now (levels .entry)) (now (filtered .entry)) width height r ⌝ }
 {
-    let ends = extremes::of_tiles(filtered, width, height);
+    let sums = extremes::of_tiles(filtered, width, height);
     let spread = noise::spread(levels, filtered);
-    judge(filtered.len() as u64, ends.bright, ends.dark, spread)
+    judge(filtered.len() as u64, sums.bright, sums.dark, spread)
 }
 
 // Judges a picture by its numbers: `count` is its number of pixels, N; `bright` and `dark` are M and
@@ -66,13 +66,13 @@ fn judge_picture(levels: &[u8], filtered: &[u16], width: usize, height: usize) -
 pub fn judge(count: u64, bright: Eighths, dark: Eighths, spread: u64) -> Verdict
     ensures { λ r. ⌜ JudgeIs count bright dark spread r ⌝ }
 {
-    let high = bright.amount();
-    let low = dark.amount();
-    let number = ranges(count, high, low, spread);
+    let eighths_bright = bright.amount();
+    let eighths_dark = dark.amount();
+    let number = ranges(count, eighths_bright, eighths_dark, spread);
     if number != table::DONE {
         return refuse(number);
     }
-    let q = ratio::ratio(count, high - low, spread);
+    let q = ratio::ratio(count, eighths_bright - eighths_dark, spread);
     if q < 1000 {
         return Verdict {
             number: table::LOW_RATIO,
@@ -85,7 +85,7 @@ pub fn judge(count: u64, bright: Eighths, dark: Eighths, spread: u64) -> Verdict
     }
 }
 
-// The number that the four alone decide, before any ratio.
+// The first test that stops the judge before any ratio: 15, then 6, 7, 8; 0 where none does.
 fn ranges(count: u64, bright: u64, dark: u64, spread: u64) -> u8
     ensures { λ r. ⌜ Tested count (eighths bright) (eighths dark) spread (λ n. r ≡ n) (r ≡ 0) ⌝ }
 {

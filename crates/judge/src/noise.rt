@@ -27,14 +27,14 @@ pub(crate) fn spread(levels: &[u8], filtered: &[u16]) -> u64
     let mut at = 0usize;
     while at < n {
         let end = nearer(at + 1024, n);
-        let part = stretch(&levels[at..end], &filtered[at..end]);
-        squares += part.squares as u64;
-        lights += part.lights as u64;
-        flats += part.flats as u64;
+        let added = stretch(&levels[at..end], &filtered[at..end]);
+        squares += added.squares as u64;
+        lights += added.lights as u64;
+        flats += added.flats as u64;
         at = end;
     }
-    let sum = apart(lights, flats);
-    (n as u64) * squares - sum * sum
+    let away = apart(lights, flats); // how far the sum of d is from 0
+    (n as u64) * squares - away * away
 }
 
 // The sums over a stretch of at most 1,024 pixels, which have room in 32 bits: so the compiler takes

@@ -35,10 +35,10 @@ fn power_below_root(d: u64) -> u64
     ensures { λ r. ⌜ (1 ≤ r) × (r ≤ 2147483648) × (r * r ≤ d) × (d < 4 * (r * r)) ⌝ }
 {
     let mut power = 1u64;
-    let mut left = d;
-    while 4 <= left {
+    let mut rest = d;
+    while 4 <= rest {
         power *= 2;
-        left /= 4;
+        rest /= 4;
     }
     power
 }

@@ -25,19 +25,19 @@ pub(crate) fn times(a: [u16; 10], k: u64) -> [u16; 10]
 pub(crate) fn at_most(a: [u16; 10], b: [u16; 10]) -> bool
     ensures { λ r. ⌜ r ≡ leb (value a 10) (value b 10) ⌝ }
 {
-    let mut less = true;
+    let mut answer = true;
     let mut i = 0usize;
     while i < 10 {
         let x = place(a[i]);
         let y = place(b[i]);
         if x < y {
-            less = true;
+            answer = true;
         } else if y < x {
-            less = false;
+            answer = false;
         }
         i += 1;
     }
-    less
+    answer
 }
 
 // a times k, and c more: as one multiplies by hand, from the lowest place, with a carry.

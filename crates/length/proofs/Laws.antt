@@ -1,5 +1,5 @@
 -- Laws of the definition: what halving finds in ℕ is the document's length, and the answer is determined. Assumes nothing.
-use mathlib.Core.Path.{_≡_, sym, ap, _∙_}
+use mathlib.Core.Path.{_≡_, ap, _∙_}
 use Prim.Native.Nat.{ℕ, _+_, _*_, _/_, _≤_}
 use native.Mathlib.Nat.{mul-le-mul, mul-le-mul-left, le-trans, lt-of-not-le}
 use native.Mathlib.Omega.{arith}
@@ -7,7 +7,7 @@ use lib.IntN.{pos}
 use Rattle.numbers.specs.Greatest.{Greatest, Between}
 use Rattle.numbers.specs.Signed.{natOf}
 use Rattle.numbers.proofs.Order.{to-ℤ, of-ℤ, low-natural, high-natural, positive}
-use Rattle.numbers.proofs.Refusals.{goes-on, together}
+use Rattle.numbers.proofs.Refusals.{goes-on, alike, together}
 use Rattle.numbers.proofs.Greatest.{Falling, one-greatest, next-has-not, reworded}
 use Rattle.units.specs.declared.Sixteenths.{Sixteenths}
 use Rattle.units.specs.declared.Picometres.{Picometres}
@@ -84,5 +84,5 @@ rounded-down s p r done = (done .length .holds, next-has-not (done .length))
 -- any two outcomes that the promise permits are equal
 pub one-answer : (s : Sixteenths) (p : Picometres) (r r' : Sharpness) → LengthIs s p r → LengthIs s p r' → r ≡ r'
 one-answer s p r r' = together
-    (λ refused refused'. refused ∙ sym refused')
-    (λ (g : Done s p r) (h : Done s p r'). same-answer (g .number ∙ sym (h .number)) (one-greatest (g .length) (h .length)))
+    alike
+    (λ (g : Done s p r) (h : Done s p r'). same-answer (alike (g .number) (h .number)) (one-greatest (g .length) (h .length)))

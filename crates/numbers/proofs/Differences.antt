@@ -1,5 +1,6 @@
 -- `subℕ a b`, the integer a − b of two naturals, as a way to compute with integers in ℕ: when two are equal, their sum and their product.
--- With these an equation of integers becomes one of naturals. Assumes nothing.
+-- With these an equation of integers becomes one of naturals. (The noise cites sums and squares; products wait for the cubic
+-- samples, whose weights are signed.) Assumes nothing.
 use mathlib.Core.Path.{_≡_, sym, ap, subst, _∙_}
 use mathlib.Core.Logic.{⊎-elim}
 use Prim.Native.Nat.{ℕ, zero, suc, _+_, _-_, _*_, _<_, _≤_}

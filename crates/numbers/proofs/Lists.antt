@@ -7,7 +7,7 @@ use native.Mathlib.Nat.{zero-mul, suc-mul, mul-le-mul-right}
 use native.Mathlib.Decide.{decLt}
 use native.Mathlib.Omega.{arith}
 use lib.ListN.{length, getD, take, drop, replicate, length-append, List·getD-append}
-use lib.Seq.{slice, getD-append-add}
+use lib.Seq.{slice, getD-append-add, getD-take, getD-drop}
 use Rattle.numbers.specs.Lists.{joined, AtMost}
 
 -- n lists of w elements have n·w elements together
@@ -30,6 +30,10 @@ joined-at (suc n) w f p j i g h =
       | yes r ↦ List·getD-append (joined n f) (f n) 0 (j * w + i) (omega (arith, mul-le-mul-right w r)) ∙ joined-at n w f q j i r h
       | no r ↦ let e : j ≡ n = omega arith in rw e (at-seam (joined n f) (f n) (n * w) i l)
     ]
+
+-- what stands at place k of the n elements from a on
+pub part-at : (a n : ℕ) (x : List ℕ) (k : ℕ) → k < n → getD (take n (drop a x)) k 0 ≡ getD x (a + k) 0
+part-at a n x k h = getD-take n (drop a x) k 0 h ∙ getD-drop a x k 0
 
 -- Lists whose elements are at most b.
 -- of an element and a list

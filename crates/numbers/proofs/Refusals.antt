@@ -1,4 +1,5 @@
 -- Laws of the chain of refusals. Assumes nothing.
+use mathlib.Core.Path.{_≡_, sym, _∙_}
 use mathlib.Core.Logic.{inl, inr}
 use Rattle.numbers.specs.Refusals.{Unless}
 
@@ -8,6 +9,15 @@ stops out a = inl (out, a)
 
 pub goes-on : {P A B : Type 0} → P → B → Unless P A B
 goes-on ok b = inr (ok, b)
+
+-- past a test that holds
+pub past : {P A B : Type 0} → P → Unless P A B → B
+past ok (inl a) = absurd (a .0 ok)
+past ok (inr b) = b .1
+
+-- two that are equal to a third, as the answers of two calls that stop at the same place are
+pub alike : {A : Type 0} {x y z : A} → x ≡ z → y ≡ z → x ≡ y
+alike p q = p ∙ sym q
 
 -- two outcomes of one chain stop at the same place: what holds of two that stopped, and of two that went on, holds of both
 pub together : {P A B A' B' R : Type 0} → (A → A' → R) → (B → B' → R) → Unless P A B → Unless P A' B' → R

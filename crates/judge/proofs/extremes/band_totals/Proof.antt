@@ -54,7 +54,7 @@ loop-again c =
     let o = c .before .before .before .before .loop in
     let r = c .before .before .part-ends in (
       omega arith,
-      parts-more (a .width) (a .wide) (a .high) (a .start) (now (a .x)) (o .bright) (o .dark) (o .at) (o .a) (r .result .bright) (r .result .dark) (o .inv .1) (r .ensures)
+      parts-more (a .width) (a .wide) (a .high) (a .start) (now (a .x)) (o .bright) (o .dark) (o .at) (o .a) (r .result .most) (r .result .least) (o .inv .1) (r .ensures)
           (omega (arith, c .before .struct-known .given)) (omega (arith, c .struct-known2 .given)),
     )
 

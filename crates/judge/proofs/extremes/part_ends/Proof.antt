@@ -59,7 +59,7 @@ loop-again c =
     let o = c .before .before .before .loop in
     let r = c .row-ends in (
       omega arith,
-      rows-more (a .width) (a .wide) (a .start) (now (a .x)) (o .bright) (o .dark) (o .at) (o .j) (r .result .bright) (r .result .dark) (o .inv .1) (r .ensures .0) (r .ensures .1),
+      rows-more (a .width) (a .wide) (a .start) (now (a .x)) (o .most) (o .least) (o .at) (o .j) (r .result .most) (r .result .least) (o .inv .1) (r .ensures .0) (r .ensures .1),
     )
 
 returns : tie.Need-returns Inv-loop μ-loop
@@ -68,7 +68,7 @@ returns c =
     let a = s .args in
     let o = c .before .loop in
     let all : o .j ≡ a .high = omega arith in
-    rows-all (a .width) (a .wide) (a .start) (now (a .x)) (a .high) (o .bright) (o .dark) (o .at) (o .j) (s .pre) (λ k. omega (arith, c .before .before .shared-slice-known .given k)) all (o .inv .1)
+    rows-all (a .width) (a .wide) (a .start) (now (a .x)) (a .high) (o .most) (o .least) (o .at) (o .j) (s .pre) (λ k. omega (arith, c .before .before .shared-slice-known .given k)) all (o .inv .1)
 
 pub part-ends-spec : {M : Type 1} → statement M
 part-ends-spec =

@@ -45,8 +45,8 @@ loop-again c =
     let o = c .before .before .before .before .loop in
     let here : o .i < length row = omega arith in (
       omega arith,
-      most-more row (o .i) here (o .high) (c .before .larger .result) (c .before .larger .ensures) ∙ o .inv .1,
-      least-more row (o .i) here (o .low) (c .smaller .result) (c .smaller .ensures) ∙ o .inv .2,
+      most-more row (o .i) here (o .most) (c .before .larger .result) (c .before .larger .ensures) ∙ o .inv .1,
+      least-more row (o .i) here (o .least) (c .smaller .result) (c .smaller .ensures) ∙ o .inv .2,
     )
 
 returns : tie.Need-returns Inv-loop μ-loop
@@ -54,7 +54,7 @@ returns c =
     let row = now (c .before .before .before .args .row) in
     let o = c .before .loop in
     let none : length row ≤ o .i = omega arith in
-    (sym (most-end row (o .i) none (o .high)) ∙ o .inv .1, sym (least-end row (o .i) none (o .low)) ∙ o .inv .2)
+    (sym (most-end row (o .i) none (o .most)) ∙ o .inv .1, sym (least-end row (o .i) none (o .least)) ∙ o .inv .2)
 
 pub row-ends-spec : {M : Type 1} → statement M
 row-ends-spec =

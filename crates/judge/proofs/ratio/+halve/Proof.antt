@@ -5,7 +5,7 @@ use native.Mathlib.Omega.{arith}
 use borrow.Fn.Kinds.{In}
 use borrow.Fn.PlainCycle.{Measures, is, falls, and}
 use Rattle.numbers.proofs.Greatest.{not-empty, upper-half, lower-half, narrowed}
-use Rattle.judge.proofs.Ratios.{passed, failed, under-falls}
+use Rattle.judge.proofs.Ratios.{answered-yes, answered-no, under-falls}
 use Rattle.judge.proofs.ratio.halve.Reads as halve
 use Rattle.judge.proofs.ratio.halve.Kinds as halve-kinds
 use Rattle.judge.proofs.ratio.+halve.Lts-halve as halve-lts
@@ -45,12 +45,12 @@ module _ (t : ℕ) where
   halve-halve-requires : halve-lts.Need-halve-requires (called t) (halve-at t) halve.Post
   halve-halve-requires c κs =
       let p = c .before .before .before .pre .1 in
-      (omega arith, (upper-half (p .0) (passed _ _ (c .before .reaches .ensures) (c .if2 .taken)), p .1, p .2))
+      (omega arith, (upper-half (p .0) (answered-yes _ _ (c .before .reaches .ensures) (c .if2 .taken)), p .1, p .2))
 
   halve-halve-requires-2 : halve-lts.Need-halve-requires-2 (called t) (halve-at t) halve.Post
   halve-halve-requires-2 c κs =
       let p = c .before .before .before .pre .1 in
-      (omega arith, (lower-half (p .0) (under-falls _ _) (failed _ _ (c .before .reaches .ensures) (c .if2 .left)), omega arith, p .2))
+      (omega arith, (lower-half (p .0) (under-falls _ _) (answered-no _ _ (c .before .reaches .ensures) (c .if2 .left)), omega arith, p .2))
 
   halve-returns-2 : halve-lts.Need-returns-2 (called t) (halve-at t) halve.Post
   halve-returns-2 c = c .halve .ensures

@@ -6,10 +6,10 @@ use Rattle.judge.proofs.ratio.power_below_root.Statement.{statement}
 use Rattle.judge.proofs.ratio.power_below_root.Tie as tie
 
 abbrev Inv-loop : tie.InvT-loop
-Inv-loop d power₀ left₀ power left = Quartered d power left
+Inv-loop d power₀ rest₀ power rest = Quartered d power rest
 
 abbrev μ-loop : tie.MeasureT-loop
-μ-loop d power₀ left₀ power left = left
+μ-loop d power₀ rest₀ power rest = rest
 
 loop-holds : tie.Need-loop-holds Inv-loop μ-loop
 loop-holds c = quartered-none (c .pre .0)

@@ -49,7 +49,7 @@ loop-again c =
     let x = c .before .before .place in
     let y = c .before .place2 in (
       omega arith,
-      compared-more (a .t1) (a .t2) (l .less) (l .i) (x .result) (y .result) (l .inv .1) (x .ensures .1, y .ensures .1) (x .ensures .0, y .ensures .0) (c .if1 .less)
+      compared-more (a .t1) (a .t2) (l .answer) (l .i) (x .result) (y .result) (l .inv .1) (x .ensures .1, y .ensures .1) (x .ensures .0, y .ensures .0) (c .if1 .answer)
           (⊎-elim
           (λ w. inl (w .0 .taken, w .1))
           (⊎-elim (λ w. inr (inl (w .1 .taken, w .2))) (λ w. inr (inr (w .1 .left, w .0 .left, w .2))))
