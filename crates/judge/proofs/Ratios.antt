@@ -175,9 +175,10 @@ module _ {N span D left right : ℕ} (sides : Sides N span D left right) where
 -- ---- for every N, M − m and D
 -- where the ratio is q hundredths or more, it is so for each smaller q
 pub reaches-falls : (N span D : ℕ) → Falling (Reaches N span D)
-reaches-falls N span D j k le h =
-    let more : j + 138 ≤ k + 138 = omega arith in
-    le-trans (mul-le-mul-right D (mul-le-mul-right 256 (mul-le-mul more more))) h
+reaches-falls N span D j k le h = to-document sides j (under-falls (D * 256) (product N span * product N span) j k le (of-document sides k h))
+  where
+    sides : Sides N span D (D * 256) (product N span * product N span)
+    sides = record { left-is = refl; right-is = refl }
 
 -- any two numbers that are the ratio are equal
 pub one-ratio : (N span D q k : ℕ) → RatioIs N span D q → RatioIs N span D k → q ≡ k
