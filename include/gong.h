@@ -88,10 +88,11 @@ uint8_t gong_filter(const uint8_t *levels, size_t levels_len, size_t width, size
  *   levels, width, height, output, work   as for gong_filter; width and height are multiples of 4
  *   ratio    receives the contrast-to-noise ratio in hundredths, rounded down (0 where it is below 0),
  *            where the number is 0 or 9; else 0
- * The filtered picture is cut into 4 by 4 tiles. Bright is the average of the sixteen tiles' maxima
- * and dark that of their minima; the noise is the deviation of the levels from the filtered ones. A
- * picture is discarded by 6 unless 170 <= bright <= 245, by 7 unless 10 <= dark <= 80, by 8 where
- * there is no noise, and by 9 where bright - dark, less 1.38 deviations, is below 10 deviations.
+ * The filtered picture is cut into sixteen tiles, four across and four down. Bright is the average
+ * of their maxima and dark that of their minima; the noise is the standard deviation of the
+ * differences between the levels and the filtered ones. A picture is discarded by 6 unless
+ * 170 <= bright <= 245, by 7 unless 10 <= dark <= 80, by 8 where there is no noise, and by 9 where
+ * bright - dark, less 1.38 deviations, is below 10 deviations.
  * Returns 0, or 6 to 9 for a picture that is discarded, and then the buffers are as gong_filter
  * leaves them; or 1 to 5, and then nothing is written to them. */
 uint8_t gong_measure(const uint8_t *levels, size_t levels_len, size_t width, size_t height, uint16_t *output,

@@ -1,7 +1,7 @@
 -- What the definitions of the extremes mean: the maximum is an element that none exceeds, the minimum one that exceeds none; and
 -- the pixels of a tile are those of its place in the picture. Assumes nothing.
 use mathlib.Core.Path.{_≡_, refl, sym, ap, _∙_}
-use mathlib.Core.List.{List, [], _∷_}
+use mathlib.Core.List.{List, [], _∷_, foldl}
 use mathlib.Core.Logic.{_⊎_, inl, inr}
 use Prim.Native.Nat.{ℕ, zero, suc, _+_, _*_, _/_, _%_, _<_, _≤_, zero-le, min, max}
 use native.Mathlib.Nat.{mul-le-mul-right, div-lt-iff-lt-mul, div-add-mod', mod-lt}
@@ -10,32 +10,30 @@ use native.Mathlib.Omega.{arith}
 use lib.ListN.{length, getD, take, drop, length-take, length-drop}
 use Rattle.numbers.proofs.Order.{row-end}
 use Rattle.numbers.proofs.Lists.{length-joined, joined-at, part-at}
-use Rattle.judge.specs.Extremes.{most, least, maximum, minimum, tile}
+use Rattle.judge.specs.Extremes.{maximum, minimum, tile}
 use Rattle.judge.specs.Measure.{ByFour}
 
 -- v is an element
 abbrev pub In : ℕ → List ℕ → Type 0
 In v l = (k : ℕ) × (k < length l) × (getD l k 0 ≡ v)
 
--- ---- the greatest, and the least, of a and the elements of a list
-most-first : (a : ℕ) (l : List ℕ) → a ≤ most a l
-unfolding most
+-- ---- what is gathered from a and the elements of a list
+-- with `max`: neither a nor an element is greater
+most-first : (a : ℕ) (l : List ℕ) → a ≤ foldl max a l
 most-first a [] = omega arith
 most-first a (x ∷ l) = omega (arith, most-first (max a x) l)
 
-most-over : (a : ℕ) (l : List ℕ) (k : ℕ) → getD l k 0 ≤ most a l
-unfolding most
+most-over : (a : ℕ) (l : List ℕ) (k : ℕ) → getD l k 0 ≤ foldl max a l
 most-over a [] k = zero-le
 most-over a (x ∷ l) zero = omega (arith, most-first (max a x) l)
 most-over a (x ∷ l) (suc k) = most-over (max a x) l k
 
-least-first : (a : ℕ) (l : List ℕ) → least a l ≤ a
-unfolding least
+-- with `min`: neither is less
+least-first : (a : ℕ) (l : List ℕ) → foldl min a l ≤ a
 least-first a [] = omega arith
 least-first a (x ∷ l) = omega (arith, least-first (min a x) l)
 
-least-under : (a : ℕ) (l : List ℕ) (k : ℕ) → k < length l → least a l ≤ getD l k 0
-unfolding least
+least-under : (a : ℕ) (l : List ℕ) (k : ℕ) → k < length l → foldl min a l ≤ getD l k 0
 least-under a [] k p = absurd (let z : ⊥ = omega arith in z)
 least-under a (x ∷ l) zero p = omega (arith, least-first (min a x) l)
 least-under a (x ∷ l) (suc k) p = least-under (min a x) l k (omega arith)
@@ -46,21 +44,17 @@ one-of-two a x c l v e (suc k, p, f) = (suc (suc k), omega arith, f)
 one-of-two a x c l v (inl e) (zero, p, f) = (0, omega arith, sym e ∙ f)
 one-of-two a x c l v (inr e) (zero, p, f) = (1, omega arith, sym e ∙ f)
 
-max-is : (a x : ℕ) → (max a x ≡ a) ⊎ (max a x ≡ x)
-max-is a x = elim (decLe a x) [ yes h ↦ inr (omega arith) | no h ↦ inl (omega arith) ]
+-- with anything that chooses one of two, it is one of them
+module _ (f : ℕ → ℕ → ℕ) (chooses : (a x : ℕ) → (f a x ≡ a) ⊎ (f a x ≡ x)) where
+  chosen-in : (a : ℕ) (l : List ℕ) → In (foldl f a l) (a ∷ l)
+  chosen-in a [] = (0, omega arith, refl)
+  chosen-in a (x ∷ l) = one-of-two a x (f a x) l (foldl f (f a x) l) (chooses a x) (chosen-in (f a x) l)
 
-min-is : (a x : ℕ) → (min a x ≡ a) ⊎ (min a x ≡ x)
-min-is a x = elim (decLe a x) [ yes h ↦ inl (omega arith) | no h ↦ inr (omega arith) ]
+max-chooses : (a x : ℕ) → (max a x ≡ a) ⊎ (max a x ≡ x)
+max-chooses a x = elim (decLe a x) [ yes h ↦ inr (omega arith) | no h ↦ inl (omega arith) ]
 
-most-in : (a : ℕ) (l : List ℕ) → In (most a l) (a ∷ l)
-unfolding most
-most-in a [] = (0, omega arith, refl)
-most-in a (x ∷ l) = one-of-two a x (max a x) l (most (max a x) l) (max-is a x) (most-in (max a x) l)
-
-least-in : (a : ℕ) (l : List ℕ) → In (least a l) (a ∷ l)
-unfolding least
-least-in a [] = (0, omega arith, refl)
-least-in a (x ∷ l) = one-of-two a x (min a x) l (least (min a x) l) (min-is a x) (least-in (min a x) l)
+min-chooses : (a x : ℕ) → (min a x ≡ a) ⊎ (min a x ≡ x)
+min-chooses a x = elim (decLe a x) [ yes h ↦ inl (omega arith) | no h ↦ inr (omega arith) ]
 
 -- ---- the maximum and the minimum of a list
 -- no element is greater than the maximum
@@ -74,7 +68,7 @@ maximum-over (x ∷ l) (suc k) = most-over x l k
 pub maximum-in : (l : List ℕ) → 1 ≤ length l → In (maximum l) l
 unfolding maximum
 maximum-in [] p = absurd (let z : ⊥ = omega arith in z)
-maximum-in (x ∷ l) p = most-in x l
+maximum-in (x ∷ l) p = chosen-in max max-chooses x l
 
 -- no element is less than the minimum
 pub minimum-under : (l : List ℕ) (k : ℕ) → k < length l → minimum l ≤ getD l k 0
@@ -87,7 +81,7 @@ minimum-under (x ∷ l) (suc k) p = least-under x l k (omega arith)
 pub minimum-in : (l : List ℕ) → 1 ≤ length l → In (minimum l) l
 unfolding minimum
 minimum-in [] p = absurd (let z : ⊥ = omega arith in z)
-minimum-in (x ∷ l) p = least-in x l
+minimum-in (x ∷ l) p = chosen-in min min-chooses x l
 
 -- ---- the tile in row b and column a of the tiles
 module _ (w h : ℕ) (x : List ℕ) (b a : ℕ) (whole : length x ≡ w * h) (row : b < 4) (column : a < 4) where

@@ -14,7 +14,7 @@ use Rattle.numbers.proofs.Refusals.{stops, goes-on}
 use Rattle.numbers.proofs.Greatest.{by-neighbours}
 use Rattle.units.specs.Units.{eighths}
 use Rattle.judge.specs.declared.Verdict.{Verdict}
-use Rattle.judge.specs.Extremes.{most, least, maximum, minimum, tile, overTiles}
+use Rattle.judge.specs.Extremes.{maximum, minimum, tile, overTiles}
 use Rattle.judge.specs.Judge.{InRange, Rated, verdict, refused, JudgeIs}
 use Rattle.judge.proofs.Ratios.{reaches-falls}
 use Rattle.judge.proofs.Verdicts.{one-verdict}
@@ -127,5 +127,5 @@ values =
     17 ∷ 18 ∷ 19 ∷ 20 ∷ 21 ∷ 22 ∷ 23 ∷ 24 ∷ 25 ∷ 26 ∷ 27 ∷ 28 ∷ 29 ∷ 30 ∷ 31 ∷ 32 ∷ []
 
 pub tiles : (overTiles maximum 8 4 values ≡ 272) × (overTiles minimum 8 4 values ≡ 256) × (overTiles maximum 4 8 values ≡ 296) × (overTiles minimum 4 8 values ≡ 232)
-unfolding joined sum most least maximum minimum tile overTiles
+unfolding joined sum maximum minimum tile overTiles
 tiles = (refl, refl, refl, refl)

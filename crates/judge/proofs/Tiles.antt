@@ -1,7 +1,7 @@
 -- Parts of a picture, row after row; tiles side by side; bands one above the other. Assumes nothing.
 use mathlib.Core.Path.{_≡_, refl, sym, ap, _∙_}
-use mathlib.Core.List.{List}
-use Prim.Native.Nat.{ℕ, zero, suc, _+_, _-_, _*_, _/_, _≤_, _<_}
+use mathlib.Core.List.{List, foldl, foldl-append}
+use Prim.Native.Nat.{ℕ, zero, suc, _+_, _-_, _*_, _/_, _≤_, _<_, min, max}
 use native.Mathlib.Nat.{mul-le-mul, mul-le-mul-right, add-mul}
 use native.Mathlib.Numerals.{add-one}
 use native.Mathlib.Omega.{arith}
@@ -10,9 +10,9 @@ use Rattle.numbers.specs.Lists.{AtMost, joined}
 use Rattle.numbers.specs.Sums.{sum}
 use Rattle.numbers.proofs.Lists.{most-take, most-drop, most-joined, joined-same}
 use Rattle.numbers.proofs.Sums.{sum-none, sum-more, sum-most}
-use Rattle.judge.specs.Extremes.{most, least, maximum, minimum, tile, overTiles}
+use Rattle.judge.specs.Extremes.{maximum, minimum, tile, overTiles}
 use Rattle.judge.specs.Asked.{Part, Band, part, bandOf, Tiled}
-use Rattle.judge.proofs.Maxima.{most-append, least-append, maximum-is, minimum-is}
+use Rattle.judge.proofs.Maxima.{maximum-is, minimum-is}
 
 -- a part's values are at most what the picture's are
 pub part-most : (b w wide high start : ℕ) (x : List ℕ) → AtMost b x → AtMost b (part w wide high start x)
@@ -36,17 +36,17 @@ row-inside w wide high start at j x p e h = let l : j ≤ high - 1 = omega arith
 -- what the loop over a part's rows knows after j of them
 pub record Rows (w wide start : ℕ) (x : List ℕ) (bright dark at j : ℕ) : Type 0 where
   pub at-is : at ≡ start + j * w
-  pub bright-is : bright ≡ most 0 (part w wide j start x)
-  pub dark-is : dark ≡ least 65535 (part w wide j start x)
+  pub bright-is : bright ≡ foldl max 0 (part w wide j start x)
+  pub dark-is : dark ≡ foldl min 65535 (part w wide j start x)
 
 module _ (w wide start : ℕ) (x : List ℕ) where
   pub rows-none : Rows w wide start x 0 65535 start 0
-  unfolding part joined most least
+  unfolding part joined
   rows-none = record { at-is = omega arith; bright-is = refl; dark-is = refl }
 
   -- one row more, as the code takes it
   pub rows-more : (bright dark at j bright' dark' : ℕ) → Rows w wide start x bright dark at j
-      → bright' ≡ most bright (take (at + wide - at) (drop at x)) → dark' ≡ least dark (take (at + wide - at) (drop at x))
+      → bright' ≡ foldl max bright (take (at + wide - at) (drop at x)) → dark' ≡ foldl min dark (take (at + wide - at) (drop at x))
       → Rows w wide start x bright' dark' (at + w) (j + 1)
   unfolding part joined
   rows-more bright dark at j bright' dark' s b d =
@@ -55,8 +55,8 @@ module _ (w wide start : ℕ) (x : List ℕ) where
       let here : take (at + wide - at) (drop at x) ≡ row j = rw (long, s .at-is) in
       record {
         at-is = omega (arith, s .at-is, add-mul j 1 w);
-        bright-is = rw (add-one, b, here, s .bright-is) (sym (most-append 0 (joined j row) (row j)));
-        dark-is = rw (add-one, d, here, s .dark-is) (sym (least-append 65535 (joined j row) (row j)));
+        bright-is = rw (add-one, b, here, s .bright-is) (sym (foldl-append max 0 (joined j row) (row j)));
+        dark-is = rw (add-one, d, here, s .dark-is) (sym (foldl-append min 65535 (joined j row) (row j)));
       }
 
   -- all rows
@@ -64,8 +64,8 @@ module _ (w wide start : ℕ) (x : List ℕ) where
       → (bright ≡ maximum (part w wide high start x)) × (dark ≡ minimum (part w wide high start x))
   rows-all high bright dark at j p small e s =
       let whole = part w wide high start x in
-      let b : bright ≡ most 0 whole = rw e at (s .bright-is) in
-      let d : dark ≡ least 65535 whole = rw e at (s .dark-is) in
+      let b : bright ≡ foldl max 0 whole = rw e at (s .bright-is) in
+      let d : dark ≡ foldl min 65535 whole = rw e at (s .dark-is) in
       (b ∙ maximum-is whole, d ∙ minimum-is 65535 whole (part-some w wide high start x p) (part-most 65535 w wide high start x small))
 
 -- part a of a band lies in the picture

@@ -1,5 +1,5 @@
 -- Document 01, "Extremes and noise": the extremes of a filtered picture, tile by tile.
-use mathlib.Core.List.{List, [], _∷_}
+use mathlib.Core.List.{List, [], _∷_, foldl}
 use Prim.Native.Nat.{ℕ, _+_, _*_, _/_, min, max}
 use lib.ListN.{take, drop}
 use Rattle.numbers.specs.Lists.{joined}
@@ -7,23 +7,14 @@ use Rattle.numbers.specs.Sums.{sum}
 use Rattle.units.specs.Units.{eighths}
 use Rattle.units.specs.declared.Eighths.{Eighths}
 
--- the greatest, and the least, of a and the elements of a list
-unfoldable pub most : ℕ → List ℕ → ℕ
-most a [] = a
-most a (x ∷ l) = most (max a x) l
-
-unfoldable pub least : ℕ → List ℕ → ℕ
-least a [] = a
-least a (x ∷ l) = least (min a x) l
-
 -- the maximum and the minimum of a list's elements (of no elements, which no tile has, both are 0)
 unfoldable pub maximum : List ℕ → ℕ
 maximum [] = 0
-maximum (x ∷ l) = most x l
+maximum (x ∷ l) = foldl max x l
 
 unfoldable pub minimum : List ℕ → ℕ
 minimum [] = 0
-minimum (x ∷ l) = least x l
+minimum (x ∷ l) = foldl min x l
 
 -- "The filtered picture is cut into 4×4 tiles of w/4 by h/4 pixels": the tile in row b and column a of the tiles, row by row.
 -- Its row j is the picture's row b·(h/4) + j, from column a·(w/4) on.

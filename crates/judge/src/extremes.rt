@@ -2,8 +2,9 @@
 // the largest piece to the smallest: the picture's four bands, the four tiles of a band, a tile's rows,
 // a row's values.
 ghost use mathlib.Core.Path.{_≡_};
+ghost use mathlib.Core.List.{foldl};
 ghost use Prim.Native.Nat.{_+_, _*_, _≤_, min, max};
-ghost use Rattle.judge.specs.Extremes.{most, least, maximum, minimum, bright, dark};
+ghost use Rattle.judge.specs.Extremes.{maximum, minimum, bright, dark};
 ghost use Rattle.judge.specs.Asked.{Tiled, Part, Band, part, bandOf};
 use units::Eighths;
 
@@ -93,7 +94,7 @@ fn part_ends(x: &[u16], width: usize, wide: usize, high: usize, start: usize) ->
 
 // The greatest and the least of a row's values and of those so far.
 fn row_ends(row: &[u16], top: u16, bottom: u16) -> Ends
-    ensures { λ r. ⌜ (r .most ≡ most top (now (row .entry))) × (r .least ≡ least bottom (now (row .entry))) ⌝ }
+    ensures { λ r. ⌜ (r .most ≡ foldl max top (now (row .entry))) × (r .least ≡ foldl min bottom (now (row .entry))) ⌝ }
 {
     let mut most = top;
     let mut least = bottom;

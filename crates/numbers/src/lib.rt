@@ -1,6 +1,6 @@
 // What several crates cite: the numbers that come back (`table`), and, in specs/ and proofs/, the
-// chain of refusals, the greatest of a kind and how halving finds it, and signed numbers beside
-// natural ones. Laws are shared from here; the one function is total.
+// chain of refusals, the greatest of a kind and how halving finds it, signed numbers beside natural
+// ones, sums, and lists. Laws are shared from here; the one function is total.
 pub mod table;
 
 ghost use mathlib.Core.Path.{_≡_};

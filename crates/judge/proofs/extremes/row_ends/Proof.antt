@@ -1,22 +1,22 @@
 -- `judge::extremes::row_ends` meets its contract: the values still to come, with those so far, have the row's extremes.
 -- Assumes nothing.
-use Prim.Native.Nat.{_-_, _≤_, _<_}
+use Prim.Native.Nat.{_-_, _≤_, _<_, min, max}
 use mathlib.Core.Path.{_≡_, refl, sym, _∙_}
+use mathlib.Core.List.{foldl}
 use native.Mathlib.Omega.{arith}
 use borrow.Author.Needs.{needs}
 use denote.Ref.{now}
 use lib.ListN.{length, drop}
-use Rattle.judge.specs.Extremes.{most, least}
-use Rattle.judge.proofs.Maxima.{most-more, least-more, most-end, least-end}
+use Rattle.judge.proofs.Maxima.{gathered-more, gathered-all}
 use Rattle.judge.proofs.extremes.row_ends.Statement.{statement}
 use Rattle.judge.proofs.extremes.row_ends.Tie as tie
 
 abbrev Inv-loop : tie.InvT-loop
-Inv-loop row bright dark high₀ low₀ i₀ high low i =
-    (i ≤ length row) × (most high (drop i row) ≡ most bright row) × (least low (drop i row) ≡ least dark row)
+Inv-loop row top bottom most₀ least₀ i₀ most least i =
+    (i ≤ length row) × (foldl max most (drop i row) ≡ foldl max top row) × (foldl min least (drop i row) ≡ foldl min bottom row)
 
 abbrev μ-loop : tie.MeasureT-loop
-μ-loop row bright dark high₀ low₀ i₀ high low i = length row - i
+μ-loop row top bottom most₀ least₀ i₀ most least i = length row - i
 
 loop-holds : tie.Need-loop-holds Inv-loop μ-loop
 loop-holds c = (omega arith, refl, refl)
@@ -45,8 +45,8 @@ loop-again c =
     let o = c .before .before .before .before .loop in
     let here : o .i < length row = omega arith in (
       omega arith,
-      most-more row (o .i) here (o .most) (c .before .larger .result) (c .before .larger .ensures) ∙ o .inv .1,
-      least-more row (o .i) here (o .least) (c .smaller .result) (c .smaller .ensures) ∙ o .inv .2,
+      gathered-more max row (o .i) here (o .most) (c .before .larger .result) (c .before .larger .ensures) ∙ o .inv .1,
+      gathered-more min row (o .i) here (o .least) (c .smaller .result) (c .smaller .ensures) ∙ o .inv .2,
     )
 
 returns : tie.Need-returns Inv-loop μ-loop
@@ -54,7 +54,7 @@ returns c =
     let row = now (c .before .before .before .args .row) in
     let o = c .before .loop in
     let none : length row ≤ o .i = omega arith in
-    (sym (most-end row (o .i) none (o .most)) ∙ o .inv .1, sym (least-end row (o .i) none (o .least)) ∙ o .inv .2)
+    (sym (gathered-all max row (o .i) none (o .most)) ∙ o .inv .1, sym (gathered-all min row (o .i) none (o .least)) ∙ o .inv .2)
 
 pub row-ends-spec : {M : Type 1} → statement M
 row-ends-spec =
