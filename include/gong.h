@@ -33,7 +33,7 @@
  *               else
  *                   fprintf(stderr, "refused: %d\n", number);    // 14; length is 0
  *
- * examples/c/filter.c, examples/c/measure.c and examples/c/length.c are whole programs.
+ * examples/c/ has whole programs: filter.c, measure.c, threshold.c and length.c.
  */
 #ifndef GONG_H
 #define GONG_H
@@ -109,6 +109,29 @@ uint8_t gong_measure(const uint8_t *levels, size_t levels_len, size_t width, siz
  * Returns 0, or 6 to 9 for a picture that is discarded; or 15 where one of the four is out of range,
  * which is tested first. */
 uint8_t gong_judge(uint64_t count, uint64_t bright, uint64_t dark, uint64_t spread, uint64_t *ratio);
+
+/* The histogram of a filtered picture.
+ *   values      what gong_filter wrote to its output, in eighths of a level: 1 to 1,048,576 values,
+ *               each at most 2,040
+ *   histogram   256 places: place v receives how many values have the whole level v, that is from
+ *               8 v to 8 v + 7 eighths; what stood there before does not count
+ * Returns 0; or 10 unless the histogram has 256 places, or 15 where the values are out of range, and
+ * then nothing is written. */
+uint8_t gong_count(const uint16_t *values, size_t values_len, uint32_t *histogram, size_t histogram_len);
+
+/* The threshold between a histogram's dark and bright levels, by two means.
+ *   histogram   256 counts, that of level 0 first, with a total of 1 to 1,048,576
+ *   rounds      receives the rounds until the threshold rests: at most 511
+ *   numerator, denominator   receive the threshold, as an exact fraction of levels, not reduced
+ * The threshold starts at 128, or at the nearest of the lowest and the highest level counted. A round
+ * replaces it by half the sum of two means: that of all levels up to it, and that of all levels from
+ * it on, each level as often as it was counted, and a level equal to it in both. It rests where a
+ * round gives it back, exactly. It always comes to rest (docs/why-it-rests.md), at the first resting
+ * threshold on its way from the start.
+ * Returns 0; or 10 unless the histogram has 256 places, 11 where it is empty, 12 where its total is
+ * above 1,048,576, and then all three are 0. */
+uint8_t gong_two_means(const uint32_t *histogram, size_t histogram_len, uint64_t *rounds, uint64_t *numerator,
+                       uint64_t *denominator);
 
 /* The length of a sharpness.
  *   factor   the sharpness factor, in sixteenths of a pixel: 1 to 16,384

@@ -12,52 +12,85 @@
 
 #include "gong.h"
 
-#define MOST 1048577u /* elements of a slice or buffer: one more than any picture has */
-#define GUARDS 8u     /* elements behind a buffer that no call may touch */
+#define MOST 1048577u     /* elements of a slice or buffer: one more than any picture has */
+#define MOST_COUNTS 4096u /* those of 32 bits */
+#define GUARDS 8u         /* elements behind a buffer that no call may touch */
 #define GUARD 0xA5A5u
 
 /* The memory that requests lend. */
 static uint8_t levels_space[MOST];
 static uint16_t output_space[MOST + GUARDS], work_space[MOST + GUARDS];
+static uint32_t counts_space[MOST_COUNTS + GUARDS];
 
 static int bytes(void *to, size_t count) { return fread(to, 1, count, stdin) == count; }
 
 /* The machine is little-endian, as x86-64 is, and so are the requests. */
 static int number(uint64_t *to) { return bytes(to, 8); }
 
-static int slice(void *space, size_t width, size_t *count)
+static int slice(void *space, size_t width, size_t most, size_t *count)
 {
     uint64_t asked;
 
-    if (!number(&asked) || asked > MOST) return 0;
+    if (!number(&asked) || asked > most) return 0;
     *count = (size_t)asked;
     return bytes(space, *count * width);
 }
 
-static int buffer(uint16_t *space, size_t *count)
+static int size_and_fill(size_t most, size_t *count, uint64_t *fill)
 {
-    uint64_t asked, fill;
+    uint64_t asked;
+
+    if (!number(&asked) || asked > most || !number(fill)) return 0;
+    *count = (size_t)asked;
+    return 1;
+}
+
+static int value_buffer(uint16_t *space, size_t *count)
+{
+    uint64_t fill;
     size_t k;
 
-    if (!number(&asked) || asked > MOST || !number(&fill)) return 0;
-    *count = (size_t)asked;
+    if (!size_and_fill(MOST, count, &fill)) return 0;
     for (k = 0; k < *count; k++) space[k] = (uint16_t)fill;
     for (k = 0; k < GUARDS; k++) space[*count + k] = GUARD;
     return 1;
 }
 
+static int count_buffer(uint32_t *space, size_t *count)
+{
+    uint64_t fill;
+    size_t k;
+
+    if (!size_and_fill(MOST_COUNTS, count, &fill)) return 0;
+    for (k = 0; k < *count; k++) space[k] = (uint32_t)fill;
+    for (k = 0; k < GUARDS; k++) space[*count + k] = GUARD;
+    return 1;
+}
+
+static void guarded(int kept)
+{
+    if (kept) return;
+    puts("an element past the buffer was written");
+    exit(3);
+}
+
 /* A buffer as the call leaves it. */
-static void show(const uint16_t *space, size_t count)
+static void show_values(const uint16_t *space, size_t count)
 {
     size_t k;
 
     for (k = 0; k < count; k++) printf(k ? " %d" : "%d", space[k]);
     putchar('\n');
-    for (k = 0; k < GUARDS; k++)
-        if (space[count + k] != GUARD) {
-            puts("an element past the buffer was written");
-            exit(3);
-        }
+    for (k = 0; k < GUARDS; k++) guarded(space[count + k] == GUARD);
+}
+
+static void show_counts(const uint32_t *space, size_t count)
+{
+    size_t k;
+
+    for (k = 0; k < count; k++) printf(k ? " %" PRIu32 : "%" PRIu32, space[k]);
+    putchar('\n');
+    for (k = 0; k < GUARDS; k++) guarded(space[count + k] == GUARD);
 }
 
 /* `f` and `m` are lent the same: a picture and two buffers. */
@@ -66,8 +99,8 @@ static int picture(int letter)
     uint64_t width, height, ratio = UINT64_MAX;
     size_t count, output, work;
 
-    if (!slice(levels_space, 1, &count) || !number(&width) || !number(&height)) return 0;
-    if (!buffer(output_space, &output) || !buffer(work_space, &work)) return 0;
+    if (!slice(levels_space, 1, MOST, &count) || !number(&width) || !number(&height)) return 0;
+    if (!value_buffer(output_space, &output) || !value_buffer(work_space, &work)) return 0;
 
     const uint8_t *levels = count ? levels_space : NULL;
     uint16_t *one = output ? output_space : NULL, *two = work ? work_space : NULL;
@@ -79,8 +112,8 @@ static int picture(int letter)
 
         printf("m %d %" PRIu64 "\n", number_back, ratio);
     }
-    show(output_space, output);
-    show(work_space, work);
+    show_values(output_space, output);
+    show_values(work_space, work);
     return 1;
 }
 
@@ -92,6 +125,29 @@ static int judge(void)
     if (!number(&count) || !number(&bright) || !number(&dark) || !number(&spread)) return 0;
     number_back = gong_judge(count, bright, dark, spread, &ratio);
     printf("j %d %" PRIu64 "\n", number_back, ratio);
+    return 1;
+}
+
+static int count(void)
+{
+    size_t values, places;
+
+    /* the values are read into a space of the buffers', for there is room */
+    if (!slice(output_space, 2, MOST, &values) || !count_buffer(counts_space, &places)) return 0;
+    printf("c %d\n", gong_count(values ? output_space : NULL, values, places ? counts_space : NULL, places));
+    show_counts(counts_space, places);
+    return 1;
+}
+
+static int two_means(void)
+{
+    uint64_t rounds = UINT64_MAX, numerator = UINT64_MAX, denominator = UINT64_MAX;
+    size_t places;
+    int number_back;
+
+    if (!slice(counts_space, 4, MOST_COUNTS, &places)) return 0;
+    number_back = gong_two_means(places ? counts_space : NULL, places, &rounds, &numerator, &denominator);
+    printf("t %d %" PRIu64 " %" PRIu64 " %" PRIu64 "\n", number_back, rounds, numerator, denominator);
     return 1;
 }
 
@@ -118,6 +174,8 @@ int main(void)
         case 'f':
         case 'm': good = picture(letter); break;
         case 'j': good = judge(); break;
+        case 'c': good = count(); break;
+        case 't': good = two_means(); break;
         case 'l': good = length(); break;
         default: good = 0;
         }

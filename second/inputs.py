@@ -152,11 +152,97 @@ def edge(rng, count, bright, dark, ratio):
     return min(max(most + rng.choice((-1, 0, 1)), 0), 2**62)
 
 
+def count_arguments(rng):
+    """Values and a histogram: mostly good; else a value above 2,040, no values, or a histogram of another length."""
+    most = rng.choice((2_040, 2_040, wide(rng, 11) % 2_041))
+    size = rng.choice((1, 2, 3, wide(rng, 8) + 1, rng.randint(1, 300)))
+    values = rng.choice((
+        lambda: [rng.randint(0, most) for _ in range(size)],
+        lambda: [most] * size,
+        lambda: [rng.choice((most, most // 2)) for _ in range(size)],
+        lambda: [8 * rng.randint(0, most // 8) + rng.choice((0, 7)) for _ in range(size)],  # both ends of a level
+    ))()
+    values = [min(value, 2_040) for value in values]
+    places = 256
+    wrong = rng.choice(6 * ('nothing',) + ('value', 'values', 'places', 'all'))
+    if wrong in ('value', 'all'):
+        values[rng.randrange(size)] = rng.choice((2_041, 2_047, 2_048, 65_535, rng.randint(2_041, 65_535)))
+    if wrong == 'values':
+        values = []
+    if wrong in ('places', 'all'):
+        places = rng.choice((0, 1, 255, 257, 2_041, wire.MOST_COUNTS, wide(rng, 12)))
+    return values, (places, wide(rng, rng.choice((32, 64))))
+
+
+def histogram(rng, kind):
+    """A histogram of 256 counts: one of HISTOGRAMS. Its total may be above what the two means take."""
+    low, high = sorted((rng.randrange(256), rng.randrange(256)))
+    most, ratio = 1 + wide(rng, 20), rng.uniform(0.5, 1)
+    if kind == 'slow':
+        return slow(rng.uniform(0.9, 0.995), rng.uniform(30, 60), rng.uniform(0.05, 0.95))
+    count = {
+        'sparse': lambda v: 1 + wide(rng, 16) if rng.random() < 0.02 else 0,
+        'dense': lambda v: rng.randint(0, 8_000),
+        'few': lambda v: rng.randint(0, 2),
+        'geometric': lambda v: int(most * ratio ** (v - low)) if low <= v <= high else 0,
+        'geometric down': lambda v: int(most * ratio ** (high - v)) if low <= v <= high else 0,
+        'peaks': lambda v: int(900 / (1 + (v - low) ** 2 / 9) + 700 / (1 + (v - high) ** 2 / 25)),
+        'one level': lambda v: most if v == low else 0,
+        'two levels': lambda v: {low: most, high: 1 + wide(rng, 19)}.get(v, 0),
+    }[kind]
+    return [count(v) for v in range(256)]
+
+
+def slow(low, mean, step):
+    """Counts that let the threshold go down from 128 by one level a round, for up to a hundred rounds and more.
+
+    A share `low` of all counts lies below 128, with the mean given, and the rest above. From 127 down, each level is
+    counted as often as brings the midpoint of the two means, once it has changed sides, a `step` below the next level.
+    """
+    low_sum, high, counts = low * mean, 1 - low, [0.0] * 256
+    high_sum = high * min(max(2 * (127 - step) - mean, 128), 255)
+    counts[255] = (high_sum - 128 * high) / 127
+    counts[128] = high - counts[255]
+    for level in range(127, 0, -1):
+        least, most = 0.0, low * 0.999
+        for _ in range(50):  # halving
+            share = (least + most) / 2
+            middle = (low_sum - level * share) / (low - share) + (high_sum + level * share) / (high + share)
+            least, most = (share, most) if middle > 2 * (level - 1 - step) else (least, share)
+        if low_sum < level * most or low_sum - level * most > (level - 1) * (low - most):
+            break
+        counts[level], low, low_sum, high, high_sum = most, low - most, low_sum - level * most, high + most, high_sum + level * most
+    counts[int(low_sum / low)] += low
+    return [int(1_048_000 * share) for share in counts]
+
+
+HISTOGRAMS = 'sparse', 'dense', 'few', 'geometric', 'geometric down', 'peaks', 'one level', 'two levels', 'slow'
+
+
+def two_means_arguments(rng):
+    """A histogram: mostly good; else empty, its total at the bound or above, counts of 2^32 − 1, or of another length."""
+    counts = histogram(rng, rng.choice(HISTOGRAMS))
+    place = rng.randrange(256)
+    wrong = rng.choice(7 * ('nothing',) + ('bound', 'bound', 'wraps', 'empty', 'length'))
+    if wrong == 'bound' and sum(counts) - counts[place] < 1_048_576:
+        counts[place] += 1_048_576 - sum(counts) + rng.choice((-1, 0, 0, 1)) if sum(counts) < 1_048_576 else 0
+    if wrong == 'wraps':  # a total of 2^32 and a little more, in two counts or many
+        for at in rng.sample(range(256), rng.choice((1, 2, 255, 256))):
+            counts[at] = 2**32 - rng.choice((1, 1, 2))
+    if wrong == 'empty':
+        counts = [0] * 256
+    if wrong == 'length':
+        counts = rng.choice((counts[:255], counts + [0], counts + [1], [], [5], counts[:rng.randrange(256)], counts * 8, counts * 16))
+    return counts,
+
+
 # For each call, what makes good arguments for it.
 ARGUMENTS = {
     b'f': filter_arguments,
     b'm': measure_arguments,
     b'j': judge_arguments,
+    b'c': count_arguments,
+    b't': two_means_arguments,
     b'l': length_arguments,
 }
 
@@ -212,6 +298,8 @@ EXAMPLES = {
     b'f': ([1, 2, 3, 4], 2, 2, (5, 9), (4, 8)),
     b'm': ([20] * 8 + [220] * 8, 4, 4, (17, 9), (16, 8)),
     b'j': (256, 25_600, 6_400, 419_430_400),
+    b'c': ([0, 7, 8, 2_040], (256, 9)),
+    b't': ([3, 0, 1] + [0] * 253,),
     b'l': (32, 800),
 }
 
@@ -220,7 +308,8 @@ def endings():
     """Ways to end, each once whatever the seed: a request cut after each of its bytes, no input at all, no call."""
     for letter, example in sorted(EXAMPLES.items()):
         whole = wire.encoded(letter, *example)
-        yield from (whole + whole[:size] for size in range(len(whole) + 1))
+        # of a long one, after each of the first bytes and some of the rest
+        yield from (whole + whole[:size] for size in range(len(whole) + 1) if size < 60 or size % 89 == 0 or size > len(whole) - 5)
     yield from (b'', b'?', b'\0', b'\xff' * 100)
 
 
@@ -252,6 +341,10 @@ def large(rng):
     for width, height in ((1_024, 4), (4, 1_024), (1_020, 4), (4, 1_020), (100, 84)):
         levels = micrograph(rng, width, height)
         made += wire.encoded(b'm', levels, width, height, (len(levels), fill(rng)), (len(levels), fill(rng)))
+    for most in (2_040, 8, 2_041):  # as many values as may be counted: of every level, of two, and one that is too large
+        values = [rng.randint(0, 2_040) % most for _ in range(1_048_575)] + [most]
+        made += wire.encoded(b'c', values, (256, fill(rng)))
+    made += wire.encoded(b'c', [320] * 1_048_576, (256, fill(rng))) + wire.encoded(b'c', [320] * 1_048_577, (256, fill(rng)))
     made += wire.encoded(b'f', whole + [1], 1_024, 1_024, (2, 3), (0, 0))  # one level too many: 2
     made += wire.encoded(b'f', whole, 1_024, 1_024, (2, 3), (wire.MOST, fill(rng)))  # 3
     return made + wire.encoded(b'f', [], 1, 1, (wire.MOST + 1, 0), (0, 0))  # a bad request

@@ -5,6 +5,7 @@ table first, then the rest, 0 where the call was refused. A lent buffer is a lis
 changes where the rule says so. Nothing here was taken from the Rattle source; read it beside
 document 01.
 """
+from fractions import Fraction
 from math import isqrt
 
 
@@ -102,6 +103,45 @@ def judge(count, bright, dark, spread):
     if ratio < 1_000:
         return 9, max(ratio, 0)
     return 0, ratio
+
+
+def count(values, histogram):
+    """Counting filtered values, which are eighths: the number. The histogram is changed where it is 0."""
+    if len(histogram) != 256:
+        return 10,
+    # "It takes 1 to 1,048,576 values, each at most 2,040."
+    if not 1 <= len(values) <= 1_048_576 or max(values) > 2_040:
+        return 15,
+    histogram[:] = [0] * 256  # "starts with a zero in each of its 256 places"
+    for eighths in values:
+        histogram[eighths // 8] += 1
+    return 0,
+
+
+def two_means(histogram):
+    """"Two means": the number, the rounds, and the resting threshold's numerator and denominator."""
+    total = sum(histogram)
+    if len(histogram) != 256:
+        return 10, 0, 0, 0
+    if total == 0:
+        return 11, 0, 0, 0
+    if total > 1_048_576:
+        return 12, 0, 0, 0
+    present = [level for level, times in enumerate(histogram) if times]
+    lowest, highest = present[0], present[-1]
+    # "The start is 128, or g if 128 < g, or G if 128 > G"
+    threshold = Fraction(lowest if 128 < lowest else highest if 128 > highest else 128)
+    rounds = 0
+    while True:
+        # "a level equal to T is in both"
+        low = [level for level in present if level <= threshold]
+        high = [level for level in present if level >= threshold]
+        a, b = sum(level * histogram[level] for level in low), sum(histogram[level] for level in low)
+        c, e = sum(level * histogram[level] for level in high), sum(histogram[level] for level in high)
+        after = (Fraction(a, b) + Fraction(c, e)) / 2
+        if after == threshold:
+            return 0, rounds, a * e + c * b, 2 * b * e
+        threshold, rounds = after, rounds + 1
 
 
 def length(factor, pixel):

@@ -87,6 +87,8 @@ CALLS = {
     b'f': Call([LEVELS, UNSIGNED, UNSIGNED, VALUE_BUFFER, VALUE_BUFFER], rules.filter),
     b'm': Call([LEVELS, UNSIGNED, UNSIGNED, VALUE_BUFFER, VALUE_BUFFER], rules.measure),
     b'j': Call([UNSIGNED, UNSIGNED, UNSIGNED, UNSIGNED], rules.judge),
+    b'c': Call([VALUES, COUNT_BUFFER], rules.count),
+    b't': Call([COUNTS], rules.two_means),
     b'l': Call([SIGNED, UNSIGNED], rules.length),
 }
 

@@ -30,6 +30,27 @@ def judged_seven(dark):
     return rules.judge(256, 25_600, dark, 419_430_400)[0] == 7
 
 
+def histogram(**counts):
+    """A histogram of 256 places: v10=3 for three pixels at level 10."""
+    return [counts.get(f'v{level}', 0) for level in range(256)]
+
+
+def rests(counts, level):
+    """Whether a whole threshold rests: half the sum of the two means, both with the level itself, is the level again."""
+    present = [(v, times) for v, times in enumerate(counts) if times]
+    a, b = (sum(part) for part in zip(*((v * times, times) for v, times in present if v <= level)))
+    c, e = (sum(part) for part in zip(*((v * times, times) for v, times in present if v >= level)))
+    return a * e + c * b == level * 2 * b * e
+
+
+def counted_and_parted(width, height, levels):
+    """The threshold of a picture, by way of the filter and the counting."""
+    filtered, counts = [0] * len(levels), [7] * 256
+    assert rules.filter(levels, width, height, filtered, [0] * len(levels)) == (0,)
+    assert rules.count(filtered, counts) == (0,)
+    return rules.two_means(counts)
+
+
 WORKED = [
     # "1×1, level 7: 56 eighths. 1×2, 0 1: 4 4. 1×3, 0 0 9: 0 0 9. 2×2, 1 2 3 4: all 20."
     (filtered, (1, 1, [7]), (0, 56)),
@@ -55,6 +76,15 @@ WORKED = [
     (judged_seven, (10_240,), False),
     # "For one kind-1 record whose levels are all 40": "16 16 6 0"
     (measured, (16, 16, [40] * 256), (6, 0)),
+    # "Threshold: one pixel each at 0 and 255: 255/2, 1 round. three at 10, one at 20: 90/6, 2 rounds. one each at 100, 128,
+    # 156: 1024/8, 0 rounds, though 121 and 135 rest too."
+    (rules.two_means, (histogram(v0=1, v255=1),), (0, 1, 255, 2)),
+    (rules.two_means, (histogram(v10=3, v20=1),), (0, 2, 90, 6)),
+    (rules.two_means, (histogram(v100=1, v128=1, v156=1),), (0, 0, 1_024, 8)),
+    (rests, (histogram(v100=1, v128=1, v156=1), 121), True),
+    (rests, (histogram(v100=1, v128=1, v156=1), 135), True),
+    # the same record's "0 5242880/131072": its rounds and its threshold
+    (counted_and_parted, (16, 16, [40] * 256), (0, 0, 5_242_880, 131_072)),
     # "s = 32, p = 800: 1,131."
     (rules.length, (32, 800), (0, 1_131)),
 ]

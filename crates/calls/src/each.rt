@@ -134,6 +134,57 @@ pub(crate) fn judge(block: &mut [u8]) -> bool
     true
 }
 
+// `c`: values, histogram.
+pub(crate) fn count(block: &mut [u8], values: &mut [u16], counts: &mut [u32]) -> bool
+    requires { ⌜ 32 ≤ length (now block) ⌝ }
+{
+    let v = request::values(values);
+    if !v.whole {
+        return false;
+    }
+    let h = request::count_buffer(counts);
+    if !h.whole {
+        return false;
+    }
+    let i = v.count;
+    let j = h.count;
+    count_lent(block, &values[..i], &mut counts[..j]);
+    true
+}
+
+fn count_lent(block: &mut [u8], values: &[u16], histogram: &mut [u32])
+    requires { ⌜ 32 ≤ length (now block) ⌝ }
+{
+    let number = threshold::count(values, histogram);
+    let at = answer::line(block, b'c', &[number as u64]);
+    let end = answer::counts(block, at, histogram);
+    answer::send(block, end);
+}
+
+// `t`: histogram.
+pub(crate) fn two_means(block: &mut [u8], counts: &mut [u32]) -> bool
+    requires { ⌜ 32 ≤ length (now block) ⌝ }
+{
+    let h = request::counts(counts);
+    if !h.whole {
+        return false;
+    }
+    let i = h.count;
+    let t = threshold::two_means(&counts[..i]);
+    let at = answer::line(
+        block,
+        b't',
+        &[
+            t.number as u64,
+            t.rounds,
+            t.value.numerator,
+            t.value.denominator,
+        ],
+    );
+    answer::send(block, at);
+    true
+}
+
 // `l`: factor, pixel.
 pub(crate) fn length(block: &mut [u8]) -> bool
     requires { ⌜ 32 ≤ length (now block) ⌝ }

@@ -34,6 +34,8 @@ fn call(
         b'f' => each::picture(letter, block, levels, one, two),
         b'm' => each::picture(letter, block, levels, one, two),
         b'j' => each::judge(block),
+        b'c' => each::count(block, one, counts),
+        b't' => each::two_means(block, counts),
         b'l' => each::length(block),
         _ => false,
     }

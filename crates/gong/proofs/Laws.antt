@@ -1,5 +1,6 @@
 -- Laws of the C face: it hands on the answer of the call below it, and so its promise is determined too. Assumes nothing.
 use mathlib.Core.Path.{_≡_, ap}
+use mathlib.Core.List.{List}
 use Prim.Native.Nat.{ℕ}
 use lib.IntN.{ℤ}
 use Rattle.units.specs.Units.{sixteenths, picometres, eighths}
@@ -9,6 +10,9 @@ use Rattle.units.specs.declared.Eighths.{Eighths}
 use Rattle.judge.specs.declared.Verdict.{Verdict}
 use Rattle.judge.specs.Judge.{verdict, JudgeIs}
 use Rattle.judge.proofs.Verdicts.{one-verdict}
+use Rattle.threshold.specs.declared.Threshold.{Threshold}
+use Rattle.threshold.specs.TwoMeans.{fraction, answered, TwoMeansIs}
+use Rattle.threshold.proofs.Outcomes.{one-threshold}
 use Rattle.length.specs.declared.Sharpness.{Sharpness}
 use Rattle.length.specs.Length.{answer, LengthIs}
 use Rattle.length.proofs.Laws.{one-answer}
@@ -28,6 +32,19 @@ module _ (N M m D n q n' q' : ℕ) (this : JudgeIs N (eighths M) (eighths m) D (
 
   pub one-judgement : (n ≡ n') × (q ≡ q')
   one-judgement = (ap (λ (v : Verdict). v .number) same-verdict, ap (λ (v : Verdict). v .ratio) same-verdict)
+
+-- any two outcomes that `gong_two_means` is permitted, the number that it returns and the three that it writes, are equal
+module _ (h : List ℕ) (n k a b n' k' a' b' : ℕ) (this : TwoMeansIs h (answered n k (fraction a b))) (that : TwoMeansIs h (answered n' k' (fraction a' b'))) where
+  same-threshold : answered n k (fraction a b) ≡ answered n' k' (fraction a' b')
+  same-threshold = one-threshold h (answered n k (fraction a b)) (answered n' k' (fraction a' b')) this that
+
+  pub one-rest : (n ≡ n') × (k ≡ k') × (a ≡ a') × (b ≡ b')
+  one-rest = (
+    ap (λ (t : Threshold). t .number) same-threshold,
+    ap (λ (t : Threshold). t .rounds) same-threshold,
+    ap (λ (t : Threshold). t .value .numerator) same-threshold,
+    ap (λ (t : Threshold). t .value .denominator) same-threshold,
+  )
 
 -- any two outcomes that `gong_length` is permitted, the number that it returns and the length that it writes, are equal
 module _ (factor : ℤ) (pixel : ℕ) (n q n' q' : ℕ) (this : LengthIs (sixteenths factor) (picometres pixel) (answer n q)) (that : LengthIs (sixteenths factor) (picometres pixel) (answer n' q')) where

@@ -5,6 +5,8 @@ ghost use Rattle.units.specs.Units.{sixteenths, picometres, eighths};
 ghost use Rattle.filter.specs.Filter.{outcome, FilterIs};
 ghost use Rattle.judge.specs.Judge.{verdict, JudgeIs};
 ghost use Rattle.judge.specs.Measure.{measurement, MeasureIs};
+ghost use Rattle.threshold.specs.Histogram.{tally, CountIs};
+ghost use Rattle.threshold.specs.TwoMeans.{fraction, answered, TwoMeansIs};
 ghost use Rattle.length.specs.Length.{answer, LengthIs};
 use units::Eighths;
 use units::Picometres;
@@ -50,6 +52,31 @@ pub extern "C" fn gong_judge(count: u64, bright: u64, dark: u64, spread: u64, ra
     let judged = judge::judge(count, Eighths::of(bright), Eighths::of(dark), spread);
     *ratio = judged.ratio;
     judged.number
+}
+
+// Counting: filtered values in eighths of a level, by their whole levels.
+#[no_mangle]
+pub extern "C" fn gong_count(values: &[u16], histogram: &mut [u32]) -> u8
+    ensures { λ r. ⌜ CountIs (now (values .entry)) (now (histogram .entry)) (tally r (now (histogram .exit))) ⌝ }
+{
+    threshold::count(values, histogram)
+}
+
+// The two means: the threshold at rest, numerator over denominator, and the rounds until then.
+#[no_mangle]
+pub extern "C" fn gong_two_means(
+    histogram: &[u32],
+    rounds: &mut u64,
+    numerator: &mut u64,
+    denominator: &mut u64,
+) -> u8
+    ensures { λ r. ⌜ TwoMeansIs (now (histogram .entry)) (answered r (now (rounds .exit)) (fraction (now (numerator .exit)) (now (denominator .exit)))) ⌝ }
+{
+    let found = threshold::two_means(histogram);
+    *rounds = found.rounds;
+    *numerator = found.value.numerator;
+    *denominator = found.value.denominator;
+    found.number
 }
 
 // The length of a sharpness: factor in sixteenths of a pixel, pixel and length in picometres.

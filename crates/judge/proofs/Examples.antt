@@ -7,35 +7,16 @@ use mathlib.Core.Option.{Option, none, some, Option·map, get}
 use Prim.Native.Nat.{ℕ, _+_, _-_, _*_, _^_}
 use native.Mathlib.Nat.{not-le-of-lt}
 use native.Mathlib.Decide.{decLe, decLt, ℕ-discrete}
-use Rattle.numbers.specs.Refusals.{Unless}
 use Rattle.numbers.specs.Lists.{joined}
 use Rattle.numbers.specs.Sums.{sum}
-use Rattle.numbers.proofs.Refusals.{stops, goes-on}
 use Rattle.numbers.proofs.Greatest.{by-neighbours}
+use Rattle.numbers.proofs.Computed.{both, not, when, unless}
 use Rattle.units.specs.Units.{eighths}
 use Rattle.judge.specs.declared.Verdict.{Verdict}
 use Rattle.judge.specs.Extremes.{maximum, minimum, tile, overTiles}
 use Rattle.judge.specs.Judge.{InRange, Rated, verdict, refused, JudgeIs}
 use Rattle.judge.proofs.Ratios.{reaches-falls}
 use Rattle.judge.proofs.Verdicts.{one-verdict}
-
--- ---- a proof of what is written, where antt finds it by comparing numbers
-both : {P Q : Type 0} → Dec P → Dec Q → Dec (P × Q)
-both (yes p) (yes q) = yes (p, q)
-both (yes p) (no g) = no (λ x. g (x .1))
-both (no f) q = no (λ x. f (x .0))
-
-not : {P : Type 0} → Dec P → Dec (¬ P)
-not (yes p) = no (λ f. f p)
-not (no f) = yes f
-
-when : {P : Type 0} → Dec P → Option P
-when (yes p) = some p
-when (no f) = none
-
-unless : {P A B : Type 0} → Dec P → Option A → Option B → Option (Unless P A B)
-unless (yes p) a b = Option·map (goes-on p) b
-unless (no f) a b = Option·map (stops f) a
 
 -- ---- a row of the table: what the judge is given, and what comes back
 pub record Row : Type 0 where

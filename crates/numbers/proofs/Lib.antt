@@ -5,3 +5,4 @@ pub mod Differences
 pub mod Lists
 pub mod Sums
 pub mod Casts
+pub mod Computed

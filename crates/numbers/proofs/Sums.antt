@@ -1,4 +1,4 @@
--- Laws of sums: one number more, a part more, bounds, that the square of a sum is at most n times the sum of the squares,
+-- Laws of sums: one number more, two sums in one, a part more, bounds, that the square of a sum is at most n times the sum of the squares,
 -- and what sums of signed numbers come to. Assumes nothing.
 use mathlib.Core.Path.{_≡_, refl}
 use mathlib.Core.Logic.{⊎-elim}
@@ -30,6 +30,12 @@ pub sum-same : (n : ℕ) (f g : ℕ → ℕ) → ((i : ℕ) → i < n → f i �
 unfolding sum
 sum-same zero f g p = refl
 sum-same (suc n) f g p = omega (arith, sum-same n f g (λ i l. p i (omega arith)), p n (omega arith))
+
+-- the sum of the numbers of two sums, taken in pairs
+pub sum-add : (n : ℕ) (f g : ℕ → ℕ) → sum n (λ i. f i + g i) ≡ sum n f + sum n g
+unfolding sum
+sum-add zero f g = refl
+sum-add (suc n) f g = omega (arith, sum-add n f g)
 
 -- a sum in two parts
 pub sum-parts : (a n : ℕ) (f : ℕ → ℕ) → sum (a + n) f ≡ sum a f + sum n (λ i. f (a + i))

@@ -1,0 +1,237 @@
+-- Laws of counting: which values can be counted, what one value more and what two parts add to a histogram, and that its total is
+-- the number of values. Assumes nothing.
+use mathlib.Core.Path.{_≡_, refl, sym, ap, _∙_}
+use mathlib.Core.Bool.{Bool, true, false, not, cond, true≢false}
+use mathlib.Core.List.{List}
+use mathlib.Core.Logic.{_≢_, inl, inr, ⊎-elim}
+use Prim.Native.Nat.{ℕ, zero, suc, _+_, _/_, _<_, _≤_, max, zero-le}
+use native.Mathlib.Nat.{zero-add, add-assoc, le-max-left, le-max-right, max-le, le-trans, not-le-of-lt}
+use native.Mathlib.Numerals.{add-one}
+use native.Mathlib.Decide.{decLt, ℕ-discrete}
+use native.Mathlib.Omega.{arith}
+use lib.Dec.{eqb, leb}
+use lib.ListN.{length, getD, set, replicate, length-set, length-replicate, getD-replicate, List·getD-eq-default}
+use lib.Seq.{getD-set-same, getD-set-other, ext-getD}
+use borrow.Author.Tests.{not-true, not-false, eq-eqb, ne-eqb, le-leb, lt-leb}
+use Rattle.numbers.specs.Refusals.{Unless}
+use Rattle.numbers.specs.Greatest.{Least}
+use Rattle.numbers.specs.Lists.{AtMost}
+use Rattle.numbers.specs.Sums.{sum}
+use Rattle.numbers.proofs.Refusals.{stops, goes-on, alike}
+use Rattle.numbers.proofs.Order.{le-or-lt}
+use Rattle.numbers.proofs.Sums.{sum-none, sum-more, sum-most, sum-same, sum-add, sum-goes-on}
+use Rattle.threshold.specs.Histogram.{addedAt, countOf, total, Countable, tally, Counted}
+use Rattle.threshold.specs.Asked.{Added}
+
+-- ---- the greatest value
+-- `most` is the greatest of the first i values
+pub record Most (values : List ℕ) (most i : ℕ) : Type 0 where
+  pub up-to : (k : ℕ) → k < i → getD values k 0 ≤ most
+  pub no-more : (b : ℕ) → AtMost b values → most ≤ b
+
+-- of none it is 0
+pub most-none : (values : List ℕ) → Most values 0 0
+most-none values = record { up-to = λ k h. absurd (let z : ⊥ = omega arith in z); no-more = λ b p. zero-le }
+
+-- one value more, x
+pub most-more : (values : List ℕ) (most i x : ℕ) → x ≡ getD values i 0 → Most values most i → Most values (max most x) (i + 1)
+most-more values most i x is so-far = record { up-to = up-to; no-more = λ b p. max-le (so-far .no-more b p) (omega (arith, p i)) }
+  where
+    up-to : (k : ℕ) → k < i + 1 → getD values k 0 ≤ max most x
+    up-to k h = elim (decLt k i) [
+      | yes g ↦ le-trans (so-far .up-to k g) (le-max-left most x)
+      | no g ↦ let e : k ≡ i = omega arith in rw (e, ← is) (le-max-right most x)
+    ]
+
+-- all values
+pub most-all : (values : List ℕ) (most i : ℕ) → length values ≤ i → Most values most i → Least (λ b. AtMost b values) most
+most-all values most i all so-far = record { holds = holds; least = so-far .no-more }
+  where
+    holds : AtMost most values
+    holds k = elim (decLt k i) [
+      | yes g ↦ so-far .up-to k g
+      | no g ↦ rw (List·getD-eq-default values 0 {n = k} (omega arith)) zero-le
+    ]
+
+-- ---- which values can be counted
+-- as many as may be can be counted if the greatest is at most 2,040
+pub countable-is : (values : List ℕ) (most : ℕ) → 1 ≤ length values → length values ≤ 1048576 → Least (λ b. AtMost b values) most
+    → Unless (Countable values) (leb most 2040 ≡ false) (leb most 2040 ≡ true)
+countable-is values most some few l = ⊎-elim
+    (λ (h : most ≤ 2040). goes-on (record { some = some; few = few; small = λ k. le-trans (l .holds k) h }) (le-leb most 2040 h))
+    (λ (h : 2040 < most). stops (λ p. not-le-of-lt h (l .least 2040 (p .small))) (lt-leb most 2040 h))
+    (le-or-lt most 2040)
+
+-- what the test's answer r tells, where the caller asks for its contrary
+pub not-countable : (values : List ℕ) {r : Bool} → Unless (Countable values) (r ≡ false) (r ≡ true) → not r ≡ true → ¬ Countable values
+not-countable values (inl out) h = out .0
+not-countable values {r} (inr ok) h = absurd (true≢false (sym (ok .1) ∙ not-true r h))
+
+pub is-countable : (values : List ℕ) {r : Bool} → Unless (Countable values) (r ≡ false) (r ≡ true) → not r ≡ false → Countable values
+is-countable values {r} (inl out) h = absurd (true≢false (sym (not-false r h) ∙ out .1))
+is-countable values (inr ok) h = ok .0
+
+-- a value that can be counted has one of 256 levels
+level-below : (values : List ℕ) (k : ℕ) → Countable values → getD values k 0 / 8 < 256
+level-below values k ok = let b : getD values k 0 ≤ 2040 = ok .small k in omega arith
+
+-- ---- places set one after the other
+-- the first i of 256 places have what f says
+pub record Written (f : ℕ → ℕ) (l : List ℕ) (i : ℕ) : Type 0 where
+  pub places : length l ≡ 256
+  pub are : (v : ℕ) → v < i → getD l v 0 ≡ f v
+
+-- before the first
+pub written-none : (f : ℕ → ℕ) (l : List ℕ) → length l ≡ 256 → Written f l 0
+written-none f l long = record { places = long; are = λ v h. absurd (let z : ⊥ = omega arith in z) }
+
+-- one place more
+pub written-more : (f : ℕ → ℕ) (l : List ℕ) (i x : ℕ) → i < 256 → x ≡ f i → Written f l i → Written f (set l i x) (i + 1)
+written-more f l i x here is so-far = record { places = length-set l i x ∙ so-far .places; are = are }
+  where
+    are : (v : ℕ) → v < i + 1 → getD (set l i x) v 0 ≡ f v
+    are v h = elim (ℕ-discrete v i) [
+      | yes e ↦ rw e (getD-set-same l i x 0 (omega (arith, so-far .places)) ∙ is)
+      | no n ↦ getD-set-other l i v x 0 n ∙ so-far .are v (omega arith)
+    ]
+
+-- all places, where f says what another list of 256 has
+pub written-all : (l m : List ℕ) (i : ℕ) → 256 ≤ i → length m ≡ 256 → Written (λ v. getD m v 0) l i → l ≡ m
+written-all l m i all long so-far = ext-getD 0 l m (alike (so-far .places) long) (λ v h. so-far .are v (omega (arith, so-far .places)))
+
+-- ---- what is added
+-- what a value x adds at level v
+abbrev one : ℕ → ℕ → ℕ
+one x v = cond (eqb (x / 8) v) 1 0
+
+-- one at its own level
+one-at : (x v : ℕ) → v ≡ x / 8 → one x v ≡ 1
+one-at x v e = rw (eq-eqb (x / 8) v (sym e))
+
+-- nothing at any other
+one-elsewhere : (x v : ℕ) → v ≢ x / 8 → one x v ≡ 0
+one-elsewhere x v n = rw (ne-eqb (x / 8) v (λ e. n (sym e)))
+
+-- never more than one
+one-most : (x v : ℕ) → one x v ≤ 1
+one-most x v = elim (ℕ-discrete v (x / 8)) [ yes e ↦ omega (arith, one-at x v e) | no n ↦ omega (arith, one-elsewhere x v n) ]
+
+-- nothing at n levels that are all below its own
+ones-none : (x n : ℕ) → n ≤ x / 8 → sum n (one x) ≡ 0
+unfolding sum
+ones-none x zero h = refl
+ones-none x (suc n) h = omega (arith, ones-none x n (omega arith), one-elsewhere x n (omega arith))
+
+-- one at n levels, where its own is among them
+ones : (x n : ℕ) → x / 8 < n → sum n (one x) ≡ 1
+unfolding sum
+ones x zero h = absurd (let z : ⊥ = omega arith in z)
+ones x (suc n) h = elim (ℕ-discrete n (x / 8)) [
+  | yes e ↦ omega (arith, ones-none x n (omega arith), one-at x n e)
+  | no d ↦ omega (arith, ones x n (omega arith), one-elsewhere x n d)
+]
+
+module _ (values : List ℕ) (a : ℕ) where
+  -- no values add nothing
+  added-none : (v : ℕ) → addedAt values a 0 v ≡ 0
+  unfolding addedAt
+  added-none v = sum-none (λ i. one (getD values (a + i) 0) v)
+
+  -- one value more adds one at its level
+  added-more : (n v : ℕ) → addedAt values a (n + 1) v ≡ addedAt values a n v + one (getD values (a + n) 0) v
+  unfolding addedAt
+  added-more n v = sum-more n (λ i. one (getD values (a + i) 0) v)
+
+  -- two parts, one after the other
+  added-parts : (m n v : ℕ) → addedAt values a m v + addedAt values (a + m) n v ≡ addedAt values a (m + n) v
+  unfolding addedAt
+  added-parts m n v =
+      sum-goes-on m n (λ i. one (getD values (a + i) 0) v) (λ i. one (getD values (a + m + i) 0) v)
+      (λ i h. ap (λ (k : ℕ). one (getD values k 0) v) (add-assoc a m i))
+
+  -- n values add at most n
+  added-most : (n v : ℕ) → addedAt values a n v ≤ n
+  unfolding addedAt
+  added-most n v = omega (arith, sum-most 1 n (λ i. one (getD values (a + i) 0) v) (λ i. one-most (getD values (a + i) 0) v))
+
+  -- at all levels together, n values that can be counted add n
+  added-all : Countable values → (n : ℕ) → sum 256 (addedAt values a n) ≡ n
+  added-all ok zero = omega (arith, sum-most 0 256 (addedAt values a 0) (λ v. omega (arith, added-none v)))
+  added-all ok (suc n) =
+      let x : ℕ = getD values (a + n) 0 in
+      omega (
+        arith,
+        sum-same 256 (addedAt values a (suc n)) (λ v. addedAt values a n v + one x v) (λ v h. rw (← add-one n) (added-more n v)),
+        sum-add 256 (addedAt values a n) (one x),
+        added-all ok n,
+        ones x 256 (level-below values (a + n) ok),
+      )
+
+  -- ---- the counts, one value after the other
+  -- of no values: a zero in each place
+  pub counts-none : Added values a 0 (replicate 256 0)
+  counts-none = record { places = length-replicate {A = ℕ} 256 0; counts-are = λ v h. getD-replicate 256 v 0 0 h ∙ sym (added-none v) }
+
+  -- one value more, that of place k
+  pub counts-more : Countable values → (n k : ℕ) (counts : List ℕ) → k ≡ a + n → Added values a n counts
+      → let l = getD values k 0 / 8 in Added values a (n + 1) (set counts l (getD counts l 0 + 1))
+  counts-more ok n k counts next so-far = record { places = length-set counts l more ∙ so-far .places; counts-are = are }
+    where
+      x : ℕ
+      x = getD values k 0
+
+      l : ℕ
+      l = x / 8
+
+      more : ℕ
+      more = getD counts l 0 + 1
+
+      here : l < 256
+      here = level-below values k ok
+
+      at-it : countOf (set counts l more) l ≡ addedAt values a n l + one x l
+      at-it = getD-set-same counts l more 0 (omega (arith, so-far .places, here)) ∙ omega (arith, so-far .counts-are l here, one-at x l refl)
+
+      are : (v : ℕ) → v < 256 → countOf (set counts l more) v ≡ addedAt values a (n + 1) v
+      are v h = rw (added-more n v, ← next) (elim (ℕ-discrete v l) [
+        | yes e ↦ rw e at-it
+        | no d ↦ getD-set-other counts l v more 0 d ∙ omega (arith, so-far .counts-are v h, one-elsewhere x v d)
+      ])
+
+  -- no place has more than there are values
+  pub counts-most : Countable values → (n : ℕ) (counts : List ℕ) → n ≤ length values → Added values a n counts → AtMost 1048576 counts
+  counts-most ok n counts part so-far v = elim (decLt v 256) [
+    | yes h ↦ omega (arith, so-far .counts-are v h, added-most n v, ok .few)
+    | no h ↦ rw (List·getD-eq-default counts 0 {n = v} (omega (arith, so-far .places))) zero-le
+  ]
+
+  -- so there is room for one more at the level of any value
+  pub counts-room : Countable values → (n k : ℕ) (counts : List ℕ) → n ≤ length values → Added values a n counts
+      → let l = getD values k 0 / 8 in (l < 256) × (getD counts l 0 ≤ 1048576)
+  counts-room ok n k counts part so-far = (level-below values k ok, counts-most ok n counts part so-far (getD values k 0 / 8))
+
+-- the counts of two parts, added place by place
+pub counts-together : (values early late counts : List ℕ) (m n : ℕ) → m + n ≡ length values → Added values 0 m early → Added values m n late
+    → (length counts ≡ 256) × ((v : ℕ) → v < 256 → getD counts v 0 ≡ getD early v 0 + getD late v 0) → Added values 0 (length values) counts
+counts-together values early late counts m n all e l r =
+    rw (← all)
+    (record {
+      places = r .0;
+      counts-are = λ v h. r .1 v h ∙ rw (e .counts-are v h, l .counts-are v h) (rw (zero-add m) at (added-parts values 0 m n v));
+    })
+
+-- ---- the histogram
+-- what is counted and put into the histogram
+pub count-done : (values counts histogram : List ℕ) → Countable values → Added values 0 (length values) counts → histogram ≡ counts
+    → Counted values (tally 0 histogram)
+unfolding total
+count-done values counts histogram ok all put =
+    rw put
+    (record {
+      number = refl;
+      places = all .places;
+      counts = all .counts-are;
+      total-is =
+          rw (all .places)
+          (sum-same 256 (countOf counts) (addedAt values 0 (length values)) (all .counts-are) ∙ added-all values 0 ok (length values));
+    })

@@ -1,0 +1,11 @@
+pub mod Histograms
+pub mod Present
+pub mod Picks
+pub mod Fractions
+pub mod Rounds
+pub mod Sequence
+pub mod Demand
+pub mod Outcomes
+pub mod Tables
+pub mod Settling
+pub mod Examples

@@ -1,0 +1,60 @@
+-- What the two calls may answer and leave: each answer is determined, what a caller reads off the number 0, and that a histogram which was
+-- counted is never refused a threshold. Assumes nothing.
+use mathlib.Core.Path.{_≡_, ap}
+use mathlib.Core.List.{List}
+use mathlib.Core.Logic.{inl, inr}
+use Prim.Native.Nat.{ℕ, _<_, _≤_}
+use native.Mathlib.Omega.{arith}
+use lib.ListN.{length}
+use lib.Seq.{ext-getD}
+use Rattle.numbers.proofs.Refusals.{past, alike, together}
+use Rattle.threshold.specs.declared.Threshold.{Threshold}
+use Rattle.threshold.specs.Histogram.{Countable, Tally, tally, Counted, CountIs}
+use Rattle.threshold.specs.TwoMeans.{answered, Done, TwoMeansIs}
+use Rattle.threshold.proofs.Demand.{one-rounds, one-answer}
+
+-- ---- counting
+-- two histograms of the same values are one
+one-histogram : (values : List ℕ) (a b : Tally) → Counted values a → Counted values b → a .histogram ≡ b .histogram
+one-histogram values a b p q =
+    ext-getD 0 (a .histogram) (b .histogram) (alike (p .places) (q .places))
+    (λ v h. let here : v < 256 = omega (arith, p .places) in alike (p .counts v here) (q .counts v here))
+
+-- the answer is determined: two outcomes that the promise permits are one
+pub one-tally : (values histogram : List ℕ) (a b : Tally) → CountIs values histogram a → CountIs values histogram b → a ≡ b
+one-tally values histogram a b =
+    together alike (together alike (λ p q i. tally (alike (p .number) (q .number) i) (one-histogram values a b p q i)))
+
+-- 0 says that the values were counted
+pub when-counted : (values histogram : List ℕ) (r : Tally) → r .number ≡ 0 → CountIs values histogram r → Countable values × Counted values r
+when-counted values histogram r done (inl a) = absurd (let is = ap (λ (t : Tally). t .number) (a .1) in let none : ⊥ = omega arith in none)
+when-counted values histogram r done (inr (places, inl a)) = absurd (let is = ap (λ (t : Tally). t .number) (a .1) in let none : ⊥ = omega arith in none)
+when-counted values histogram r done (inr (places, inr counted)) = counted
+
+-- ---- the two means
+-- the answer is determined: two thresholds that the promise permits are one
+pub one-threshold : (h : List ℕ) (a b : Threshold) → TwoMeansIs h a → TwoMeansIs h b → a ≡ b
+one-threshold h a b =
+    together alike (together alike (together alike
+    (λ p q.
+    let number = alike (p .number) (q .number) in
+    let rounds = one-rounds 128 h (a .rounds) (b .rounds) (a .value) (b .value) (p .settled) (q .settled) in
+    let value = one-answer 128 h (a .rounds) (b .rounds) (a .value) (b .value) (p .settled) (q .settled) in
+    λ i. answered (number i) (rounds i) (value i))))
+
+-- 0 says that the threshold is settled
+pub when-settled : (h : List ℕ) (r : Threshold) → r .number ≡ 0 → TwoMeansIs h r → (length h ≡ 256) × Done 128 h r
+when-settled h r done (inl a) = absurd (let is = ap (λ (t : Threshold). t .number) (a .1) in let none : ⊥ = omega arith in none)
+when-settled h r done (inr (levels, inl a)) = absurd (let is = ap (λ (t : Threshold). t .number) (a .1) in let none : ⊥ = omega arith in none)
+when-settled h r done (inr (levels, inr (some, inl a))) = absurd (let is = ap (λ (t : Threshold). t .number) (a .1) in let none : ⊥ = omega arith in none)
+when-settled h r done (inr (levels, inr (some, inr (few, d)))) = (levels, d)
+
+-- in at most 511 rounds
+pub in-511 : (h : List ℕ) (r : Threshold) → r .number ≡ 0 → TwoMeansIs h r → r .rounds ≤ 511
+in-511 h r done is = let d = when-settled h r done is in omega (arith, d .0, d .1 .settled .in-time)
+
+-- a histogram that was counted has a threshold
+pub counted-has-one : (values : List ℕ) (counts : Tally) (r : Threshold) → Countable values → Counted values counts
+    → TwoMeansIs (counts .histogram) r → Done 128 (counts .histogram) r
+counted-has-one values counts r ok counted is =
+    past (omega (arith, counted .total-is, ok .few)) (past (λ none. omega (arith, counted .total-is, ok .some, none)) (past (counted .places) is))

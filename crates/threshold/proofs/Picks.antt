@@ -1,0 +1,97 @@
+-- Laws of sums over the levels that a test picks. Assumes nothing.
+use mathlib.Core.Path.{_≡_, refl}
+use mathlib.Core.Bool.{Bool, true, false, cond, not, _&&_, false≢true}
+use mathlib.Core.Logic.{⊎-elim}
+use Prim.Native.Nat.{ℕ, zero, suc, _+_, _*_, _<_, _≤_}
+use native.Mathlib.Nat.{eq-or-lt-of-le}
+use native.Mathlib.Omega.{arith}
+use borrow.Author.Tests.{not-true}
+use Rattle.numbers.specs.Sums.{sum}
+use Rattle.threshold.specs.TwoMeans.{over}
+
+-- every level that p picks, q picks too
+abbrev pub Sub : (ℕ → Bool) → (ℕ → Bool) → Type 0
+Sub p q = (v : ℕ) → p v ≡ true → q v ≡ true
+
+-- the levels that q picks beyond those that p picks
+abbrev pub beyond : (ℕ → Bool) → (ℕ → Bool) → ℕ → Bool
+beyond p q v = q v && not (p v)
+
+-- such a level is one that q picks and p does not
+pub beyond-is : (p q : ℕ → Bool) (v : ℕ) → beyond p q v ≡ true → (q v ≡ true) × (p v ≡ false)
+beyond-is p q v = go (q v) (p v)
+  where
+    go : (b d : Bool) → (b && not d) ≡ true → (b ≡ true) × (d ≡ false)
+    go true d e = (refl, not-true d e)
+    go false d e = absurd (false≢true e)
+
+-- what q picks is what p picks and what lies beyond
+pub in-two : (p q : ℕ → Bool) → Sub p q → (n : ℕ) (f : ℕ → ℕ) → over n q f ≡ over n p f + over n (beyond p q) f
+unfolding sum over
+in-two p q s zero f = refl
+in-two p q s (suc n) f = omega (arith, in-two p q s n f, one (q n) (p n) (s n))
+  where
+    one : (b d : Bool) → (d ≡ true → b ≡ true) → cond b (f n) 0 ≡ cond d (f n) 0 + cond (b && not d) (f n) 0
+    one true true i = omega arith
+    one true false i = omega arith
+    one false true i = absurd (false≢true (i refl))
+    one false false i = omega arith
+
+-- what is picked is at most all
+pub over-part : (n : ℕ) (p : ℕ → Bool) (f : ℕ → ℕ) → over n p f ≤ sum n f
+unfolding sum over
+over-part zero p f = omega arith
+over-part (suc n) p f = omega (arith, over-part n p f, one (p n))
+  where
+    one : (b : Bool) → cond b (f n) 0 ≤ f n
+    one true = omega arith
+    one false = omega arith
+
+-- and at least what any picked level has
+pub over-has : (n : ℕ) (p : ℕ → Bool) (f : ℕ → ℕ) (v : ℕ) → v < n → p v ≡ true → f v ≤ over n p f
+unfolding sum over
+over-has zero p f v l t = absurd (omega arith)
+over-has (suc n) p f v l t = ⊎-elim last (λ (e : v < n). omega (arith, over-has n p f v e t)) (eq-or-lt-of-le {n = v} {m = n} (omega arith))
+  where
+    last : v ≡ n → f v ≤ sum n (λ v. cond (p v) (f v) 0) + cond (p n) (f n) 0
+    last e = rw (← e, t) (omega arith)
+
+-- where f is at most g at each picked level, so are the sums
+pub over-le : (n : ℕ) (p : ℕ → Bool) (f g : ℕ → ℕ) → ((v : ℕ) → p v ≡ true → f v ≤ g v) → over n p f ≤ over n p g
+unfolding sum over
+over-le zero p f g le = omega arith
+over-le (suc n) p f g le = omega (arith, over-le n p f g le, one (p n) (le n))
+  where
+    one : (b : Bool) → (b ≡ true → f n ≤ g n) → cond b (f n) 0 ≤ cond b (g n) 0
+    one true l = l refl
+    one false l = omega arith
+
+-- where f comes to 0, so does what is 0 wherever f is
+pub over-zero : (n : ℕ) (p : ℕ → Bool) (f g : ℕ → ℕ) → ((v : ℕ) → f v ≡ 0 → g v ≡ 0) → over n p f ≡ 0 → over n p g ≡ 0
+unfolding sum over
+over-zero zero p f g z e = refl
+over-zero (suc n) p f g z e = omega (arith, over-zero n p f g z (omega arith), one (p n) (omega arith))
+  where
+    one : (b : Bool) → cond b (f n) 0 ≡ 0 → cond b (g n) 0 ≡ 0
+    one true e = z n e
+    one false e = refl
+
+-- k times each
+pub scale : (n : ℕ) (p : ℕ → Bool) (f : ℕ → ℕ) (k : ℕ) → over n p (λ v. f v * k) ≡ over n p f * k
+unfolding sum over
+scale zero p f k = omega arith
+scale (suc n) p f k = omega (arith, scale n p f k, one (p n))
+  where
+    one : (b : Bool) → cond b (f n * k) 0 ≡ cond b (f n) 0 * k
+    one true = refl
+    one false = omega arith
+
+-- two sums at once
+pub both : (n : ℕ) (p : ℕ → Bool) (f g : ℕ → ℕ) → over n p (λ v. f v + g v) ≡ over n p f + over n p g
+unfolding sum over
+both zero p f g = refl
+both (suc n) p f g = omega (arith, both n p f g, one (p n))
+  where
+    one : (b : Bool) → cond b (f n + g n) 0 ≡ cond b (f n) 0 + cond b (g n) 0
+    one true = refl
+    one false = refl

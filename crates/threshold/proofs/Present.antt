@@ -1,0 +1,124 @@
+-- The levels present in a histogram: `lowest` is the least of them and `highest` the greatest, where there are any. Assumes nothing.
+use mathlib.Core.Path.{_≡_, refl, ap}
+use mathlib.Core.Bool.{Bool, true, false}
+use mathlib.Core.List.{List, [], _∷_}
+use Prim.Native.Nat.{ℕ, zero, suc, _+_, _<_, _≤_, zero-le}
+use native.Mathlib.Nat.{lt-of-not-le, lt-of-lt-of-le, pos-of-ne-zero}
+use native.Mathlib.Omega.{arith}
+use lib.Dec.{eqb}
+use lib.ListN.{length, List·getD-eq-default}
+use borrow.Author.Tests.{eqb-true, eqb-false, ne-eqb, lt-ltb, le-ltb}
+use Rattle.numbers.specs.Greatest.{Greatest, Least}
+use Rattle.numbers.specs.Sums.{sum}
+use Rattle.threshold.specs.Histogram.{countOf, total}
+use Rattle.threshold.specs.TwoMeans.{lowest, highest, nearest}
+
+-- a level is present where it was counted
+abbrev pub Present : List ℕ → ℕ → Type 0
+Present h v = 0 < countOf h v
+
+-- the levels of a histogram are those below its length
+pub present-below : (h : List ℕ) (v : ℕ) → Present h v → v < length h
+present-below h v p = lt-of-not-le (λ (past : length h ≤ v). omega (arith, p, List·getD-eq-default h 0 past))
+
+-- a level that is present is none that is not
+present-or-not : (h : List ℕ) (q v : ℕ) → Present h q → countOf h v ≡ 0 → ¬ (v ≡ q)
+present-or-not h q v there absent e = omega (arith, there, absent, ap (countOf h) e)
+
+-- no levels have the total 0
+pub total-none : total [] ≡ 0
+unfolding total sum
+total-none = refl
+
+-- a sum from its first number on
+sum-first : (n : ℕ) (f : ℕ → ℕ) → sum (suc n) f ≡ f 0 + sum n (λ i. f (suc i))
+unfolding sum
+sum-first zero f = omega arith
+sum-first (suc n) f = omega (arith, sum-first n f)
+
+-- the total is the first count and the total of the others
+pub total-first : (c : ℕ) (cs : List ℕ) → total (c ∷ cs) ≡ c + total cs
+unfolding total
+total-first c cs = sum-first (length cs) (countOf (c ∷ cs))
+
+-- each count is a part of the total
+pub count-in-total : (h : List ℕ) (v : ℕ) → countOf h v ≤ total h
+count-in-total [] v = zero-le
+count-in-total (c ∷ cs) zero = omega (arith, total-first c cs)
+count-in-total (c ∷ cs) (suc v) = omega (arith, total-first c cs, count-in-total cs v)
+
+-- where a level is present, the total is not 0
+pub present-counts : (h : List ℕ) (v : ℕ) → Present h v → 0 < total h
+present-counts h v p = lt-of-lt-of-le p (count-in-total h v)
+
+-- the least level present is one more behind a level that is not
+behind-none : (cs : List ℕ) {q : ℕ} → Least (Present cs) q → Least (Present (0 ∷ cs)) (suc q)
+behind-none cs {q} rest = record { holds = rest .holds; least = later }
+  where
+    later : (k : ℕ) → Present (0 ∷ cs) k → suc q ≤ k
+    later zero p = absurd (let none : ⊥ = omega (arith, p) in none)
+    later (suc k) p = omega (arith, rest .least k p)
+
+-- `lowest` is the least level present
+pub lowest-is : (h : List ℕ) → 0 < total h → Least (Present h) (lowest h)
+lowest-is [] some = absurd (let none : ⊥ = omega (arith, some, total-none) in none)
+lowest-is (zero ∷ cs) some = behind-none cs (lowest-is cs (omega (arith, some, total-first 0 cs)))
+lowest-is (suc c ∷ cs) some = rw (ne-eqb (suc c) 0 (λ e. omega (arith, e))) (record { holds = omega arith; least = λ k p. zero-le })
+
+-- the greatest level present is one more behind any count
+behind-one : (c : ℕ) (cs : List ℕ) {q : ℕ} → Greatest (Present cs) q → Greatest (Present (c ∷ cs)) (suc q)
+behind-one c cs {q} rest = record { holds = rest .holds; most = later }
+  where
+    later : (k : ℕ) → Present (c ∷ cs) k → k ≤ suc q
+    later zero p = zero-le
+    later (suc k) p = omega (arith, rest .most k p)
+
+-- and it is 0 where nothing else is counted
+only-first : (c : ℕ) (cs : List ℕ) → 0 < c → total cs ≡ 0 → Greatest (Present (c ∷ cs)) 0
+only-first c cs some nothing = record { holds = some; most = first }
+  where
+    first : (k : ℕ) → Present (c ∷ cs) k → k ≤ 0
+    first zero p = zero-le
+    first (suc k) p = absurd (let none : ⊥ = omega (arith, nothing, present-counts cs k p) in none)
+
+-- `highest` is the greatest level present
+pub highest-is : (h : List ℕ) → 0 < total h → Greatest (Present h) (highest h)
+highest-is [] some = absurd (let none : ⊥ = omega (arith, some, total-none) in none)
+highest-is (c ∷ cs) some = go (eqb (total cs) 0) refl (highest-is cs)
+  where
+    go : (b : Bool) → eqb (total cs) 0 ≡ b → (0 < total cs → Greatest (Present cs) (highest cs)) → Greatest (Present (c ∷ cs)) (highest (c ∷ cs))
+    go true e rest =
+        let nothing : total cs ≡ 0 = eqb-true (total cs) 0 e in
+        rw e (only-first c cs (omega (arith, some, total-first c cs, nothing)) nothing)
+    go false e rest = rw e (behind-one c cs (rest (pos-of-ne-zero (eqb-false (total cs) 0 e))))
+
+-- where the searches for the two ends stand, from either side, and where they stop
+module _ (h : List ℕ) (some : 0 < total h) where
+  pub lowest-below : lowest h < length h
+  lowest-below = present-below h (lowest h) (lowest-is h some .holds)
+
+  pub highest-below : highest h < length h
+  highest-below = present-below h (highest h) (highest-is h some .holds)
+
+  pub lowest-later : (v : ℕ) → v ≤ lowest h → countOf h v ≡ 0 → v + 1 ≤ lowest h
+  lowest-later v so-far absent = omega (arith, present-or-not h (lowest h) v (lowest-is h some .holds) absent)
+
+  pub lowest-here : (v : ℕ) → v ≤ lowest h → ¬ (countOf h v ≡ 0) → v ≡ lowest h
+  lowest-here v so-far there = omega (arith, lowest-is h some .least v (pos-of-ne-zero there))
+
+  pub highest-sooner : (v : ℕ) → highest h ≤ v → countOf h v ≡ 0 → highest h + 1 ≤ v
+  highest-sooner v so-far absent = omega (arith, present-or-not h (highest h) v (highest-is h some .holds) absent)
+
+  pub highest-here : (v : ℕ) → highest h ≤ v → ¬ (countOf h v ≡ 0) → v ≡ highest h
+  highest-here v so-far there = omega (arith, highest-is h some .most v (pos-of-ne-zero there))
+
+-- the start, from the two ends as they were found
+module _ (m : ℕ) {low high g G : ℕ} (is-low : low ≡ g) (is-high : high ≡ G) where
+  pub nearest-low : m < low → low ≡ nearest m g G
+  nearest-low below = rw (← is-low, lt-ltb m low below)
+
+  pub nearest-high : low ≤ m → high < m → high ≡ nearest m g G
+  nearest-high from above = rw (← is-low, ← is-high, le-ltb m low from, lt-ltb high m above)
+
+  pub nearest-middle : low ≤ m → m ≤ high → m ≡ nearest m g G
+  nearest-middle from to = rw (← is-low, ← is-high, le-ltb m low from, le-ltb high m to)

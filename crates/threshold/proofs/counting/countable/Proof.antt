@@ -1,0 +1,24 @@
+-- `threshold::counting::countable` meets its contract: there are as many values as may be, and the greatest is at most 2,040. Assumes nothing.
+use mathlib.Core.Path.{refl}
+use native.Mathlib.Omega.{arith}
+use borrow.Author.Needs.{needs}
+use denote.Ref.{now}
+use Rattle.numbers.proofs.Refusals.{stops}
+use Rattle.threshold.proofs.Histograms.{countable-is}
+use Rattle.threshold.proofs.counting.countable.Statement.{statement}
+use Rattle.threshold.proofs.counting.countable.Tie as tie
+
+returns : tie.Need-returns
+returns c = stops (λ p. omega (arith, p .some)) refl
+
+returns-2 : tie.Need-returns-2
+returns-2 c = stops (λ p. omega (arith, p .few)) refl
+
+greatest-requires : tie.Need-greatest-requires
+greatest-requires c κs = search needs
+
+returns-3 : tie.Need-returns-3
+returns-3 c = countable-is (now (c .before .before .before .before .args .values)) (c .greatest .result) (omega arith) (omega arith) (c .greatest .ensures)
+
+pub countable-spec : {M : Type 1} → statement M
+countable-spec = tie.close (tie.spec returns returns-2 greatest-requires returns-3)

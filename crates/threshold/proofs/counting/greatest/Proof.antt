@@ -1,0 +1,60 @@
+-- `threshold::counting::greatest` meets its contract: after each value it has the greatest so far. Assumes nothing.
+use Prim.Native.Nat.{_-_, _≤_}
+use mathlib.Core.Path.{refl}
+use native.Mathlib.Omega.{arith}
+use borrow.Author.Needs.{needs}
+use denote.Ref.{now}
+use lib.ListN.{length}
+use Rattle.threshold.proofs.Histograms.{Most, most-none, most-more, most-all}
+use Rattle.threshold.proofs.counting.greatest.Statement.{statement}
+use Rattle.threshold.proofs.counting.greatest.Tie as tie
+
+abbrev Inv-loop : tie.InvT-loop
+Inv-loop values most₀ i₀ most i = (i ≤ length values) × Most values most i
+
+abbrev μ-loop : tie.MeasureT-loop
+μ-loop values most₀ i₀ most i = length values - i
+
+loop-holds : tie.Need-loop-holds Inv-loop μ-loop
+loop-holds c = (omega arith, most-none (now (c .before .args .values)))
+
+mul-greater : tie.Need-mul-greater Inv-loop μ-loop
+mul-greater c = omega arith
+
+shared-slice-read-greater : tie.Need-shared-slice-read-greater Inv-loop μ-loop
+shared-slice-read-greater c = omega arith
+
+greater-requires : tie.Need-greater-requires Inv-loop μ-loop
+greater-requires c κs = search needs
+
+add-i : tie.Need-add-i Inv-loop μ-loop
+add-i c = omega arith
+
+loop-less : tie.Need-loop-less Inv-loop μ-loop
+loop-less c = omega arith
+
+loop-again : tie.Need-loop-again Inv-loop μ-loop
+loop-again c =
+    let values = now (c .before .before .before .before .before .args .values) in
+    let o = c .before .before .before .loop in
+    (omega arith, rw (c .greater .ensures) (most-more values (o .most) (o .i) _ refl (o .inv .1)))
+
+returns : tie.Need-returns Inv-loop μ-loop
+returns c =
+    let o = c .before .loop in
+    most-all (now (c .before .before .before .args .values)) (o .most) (o .i) (omega arith) (o .inv .1)
+
+pub greatest-spec : {M : Type 1} → statement M
+greatest-spec =
+    tie.close
+    (tie.spec
+    Inv-loop
+    μ-loop
+    loop-holds
+    mul-greater
+    shared-slice-read-greater
+    greater-requires
+    add-i
+    loop-less
+    loop-again
+    returns)

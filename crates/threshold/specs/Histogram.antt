@@ -1,0 +1,51 @@
+-- Document 01, "Two means", its first paragraph, and the numbers 10 and 15 of its table: the histogram of a filtered picture.
+use mathlib.Core.Path.{_≡_}
+use mathlib.Core.Bool.{cond}
+use mathlib.Core.List.{List}
+use Prim.Native.Nat.{ℕ, _+_, _/_, _<_, _≤_}
+use lib.Dec.{eqb}
+use lib.ListN.{length, getD}
+use Rattle.numbers.specs.Refusals.{Unless}
+use Rattle.numbers.specs.Lists.{AtMost}
+use Rattle.numbers.specs.Sums.{sum}
+
+-- "each filtered value adds one at its eighths divided by 8, rounded down": what n values, from place a on, add at level v
+unfoldable pub addedAt : List ℕ → ℕ → ℕ → ℕ → ℕ
+addedAt values a n v = sum n (λ i. cond (eqb (getD values (a + i) 0 / 8) v) 1 0)
+
+-- A histogram is the list of its counts, from that of level 0 on.
+abbrev pub countOf : List ℕ → ℕ → ℕ
+countOf h v = getD h v 0
+
+-- "Its total"
+unfoldable pub total : List ℕ → ℕ
+total h = sum (length h) (countOf h)
+
+-- "It takes 1 to 1,048,576 values, each at most 2,040."
+pub record Countable (values : List ℕ) : Type 0 where
+  pub some : 1 ≤ length values
+  pub few : length values ≤ 1048576
+  pub small : AtMost 2040 values
+
+-- what counting answers and leaves: the number, and the lent histogram
+pub record Tally : Type 0 where
+  pub number : ℕ
+  pub histogram : List ℕ
+
+abbrev pub tally : ℕ → List ℕ → Tally
+tally n h = record { number = n; histogram = h }
+
+-- "0 | done": "starts with a zero in each of its 256 places", so that each has just what was added there, whatever it held before;
+-- and "Its total equals the number of values."
+pub record Counted (values : List ℕ) (r : Tally) : Type 0 where
+  pub number : r .number ≡ 0
+  pub places : length (r .histogram) ≡ 256
+  pub counts : (v : ℕ) → v < 256 → countOf (r .histogram) v ≡ addedAt values 0 (length values) v
+  pub total-is : total (r .histogram) ≡ length values
+
+-- "histogram not 256 long", "the values to be counted, out of range", and "nothing written" in both cases
+abbrev pub CountIs : List ℕ → List ℕ → Tally → Type 0
+CountIs values histogram r =
+    Unless (length histogram ≡ 256) (r ≡ tally 10 histogram)
+    (Unless (Countable values) (r ≡ tally 15 histogram)
+    (Counted values r))

@@ -1,0 +1,3 @@
+pub mod Histogram
+pub mod TwoMeans
+pub mod Asked

@@ -1,0 +1,44 @@
+// Where the rounds begin (document 01: "Lowest and highest levels present are g and G. The start is
+// 128, or g if 128 < g, or G if 128 > G").
+ghost use mathlib.Core.Path.{_≡_};
+ghost use Prim.Native.Nat.{_<_};
+ghost use Rattle.threshold.specs.Histogram.{total};
+ghost use Rattle.threshold.specs.TwoMeans.{lowest as lowestOf, highest as highestOf, nearest};
+
+// The start: `middle`, or the nearest end of the levels present.
+pub(crate) fn start(histogram: &[u32], middle: usize) -> usize
+    requires { ⌜ 0 < total (now histogram) ⌝ }
+    ensures { λ r. ⌜ r ≡ nearest middle (lowestOf (now (histogram .entry))) (highestOf (now (histogram .entry))) ⌝ }
+{
+    let low = lowest(histogram);
+    let high = highest(histogram);
+    if middle < low {
+        return low;
+    }
+    if high < middle {
+        return high;
+    }
+    middle
+}
+
+fn lowest(histogram: &[u32]) -> usize
+    requires { ⌜ 0 < total (now histogram) ⌝ }
+    ensures { λ r. ⌜ r ≡ lowestOf (now (histogram .entry)) ⌝ }
+{
+    let mut v = 0usize;
+    while histogram[v] == 0 {
+        v += 1;
+    }
+    v
+}
+
+fn highest(histogram: &[u32]) -> usize
+    requires { ⌜ 0 < total (now histogram) ⌝ }
+    ensures { λ r. ⌜ r ≡ highestOf (now (histogram .entry)) ⌝ }
+{
+    let mut v = histogram.len() - 1;
+    while histogram[v] == 0 {
+        v -= 1;
+    }
+    v
+}
