@@ -6,7 +6,8 @@
  *
  * BUILDING      rt staticlib gong        makes target/staticlib/libgong.a, x86-64 code
  *               cc -Iinclude yours.c target/staticlib/libgong.a
- *               The library needs nothing else: no start-up call, no memory of its own, no locale.
+ *               The library needs memcpy and memset, which every C library has, and 5 KB of stack, and
+ *               nothing else: no start-up call, no memory of its own, no locale.
  *
  * NUMBERS       Every function returns a number of the table below, 0 for done. Where several
  *               numbers apply the lowest comes back, unless a function says otherwise.
@@ -112,9 +113,11 @@ uint8_t gong_judge(uint64_t count, uint64_t bright, uint64_t dark, uint64_t spre
 
 /* The histogram of a filtered picture.
  *   values      what gong_filter wrote to its output, in eighths of a level: 1 to 1,048,576 values,
- *               each at most 2,040
+ *               each at most 2,040. values_len is width times height, even where the output buffer
+ *               is longer
  *   histogram   256 places: place v receives how many values have the whole level v, that is from
- *               8 v to 8 v + 7 eighths; what stood there before does not count
+ *               8 v to 8 v + 7 eighths; what stood there before is overwritten
+ * values and histogram must not overlap.
  * Returns 0; or 10 unless the histogram has 256 places, or 15 where the values are out of range, and
  * then nothing is written. */
 uint8_t gong_count(const uint16_t *values, size_t values_len, uint32_t *histogram, size_t histogram_len);
@@ -122,14 +125,17 @@ uint8_t gong_count(const uint16_t *values, size_t values_len, uint32_t *histogra
 /* The threshold between a histogram's dark and bright levels, by two means.
  *   histogram   256 counts, that of level 0 first, with a total of 1 to 1,048,576
  *   rounds      receives the rounds until the threshold rests: at most 511
- *   numerator, denominator   receive the threshold, as an exact fraction of levels, not reduced
- * The threshold starts at 128, or at the nearest of the lowest and the highest level counted. A round
- * replaces it by half the sum of two means: that of all levels up to it, and that of all levels from
- * it on, each level as often as it was counted, and a level equal to it in both. It rests where a
- * round gives it back, exactly. It always comes to rest (docs/why-it-rests.md), at the first resting
- * threshold on its way from the start.
- * Returns 0; or 10 unless the histogram has 256 places, 11 where it is empty, 12 where its total is
- * above 1,048,576, and then all three are 0. */
+ *   numerator, denominator   receive the threshold in levels, numerator over denominator, not reduced:
+ *               below 2^49, and at most 2^41
+ * The threshold starts at 128, or at the lowest level counted where that is above 128, or at the
+ * highest where that is below. A round replaces it by half the sum of two means: that of all levels up
+ * to it, and that of all levels from it on, each level as often as it was counted, and a level equal to
+ * it in both. It rests where a round gives it back, exactly. It always comes to rest
+ * (docs/why-it-rests.md), at the first resting threshold on its way from the start.
+ * rounds, numerator and denominator must be three different objects outside the histogram.
+ * Returns 0; or 10 unless the histogram has 256 places, 11 where all its counts are 0, 12 where its
+ * total is above 1,048,576, and then all three are 0, the denominator too: test the number before you
+ * divide. */
 uint8_t gong_two_means(const uint32_t *histogram, size_t histogram_len, uint64_t *rounds, uint64_t *numerator,
                        uint64_t *denominator);
 

@@ -132,7 +132,7 @@ static int count(void)
 {
     size_t values, places;
 
-    /* the values are read into a space of the buffers', for there is room */
+    /* the values are read into the output's space, which this call does not need */
     if (!slice(output_space, 2, MOST, &values) || !count_buffer(counts_space, &places)) return 0;
     printf("c %d\n", gong_count(values ? output_space : NULL, values, places ? counts_space : NULL, places));
     show_counts(counts_space, places);

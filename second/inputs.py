@@ -179,11 +179,17 @@ def histogram(rng, kind):
     low, high = sorted((rng.randrange(256), rng.randrange(256)))
     most, ratio = 1 + wide(rng, 20), rng.uniform(0.5, 1)
     if kind == 'slow':
-        return slow(rng.uniform(0.9, 0.995), rng.uniform(30, 60), rng.uniform(0.05, 0.95))
+        counts = slow(rng.uniform(0.9, 0.9995), rng.uniform(5, 60), rng.uniform(0.05, 0.95))
+        return rng.choice((counts, counts[::-1]))  # down from 128, or up
+    if kind == 'mirrored':  # about 128, which then rests after no round, counted itself or not
+        half = [1 + wide(rng, 12) if rng.random() < 0.06 else 0 for _ in range(128)]
+        half[0] = rng.choice((0, 1 + wide(rng, 12)))
+        return [0] + half[:0:-1] + half
     count = {
         'sparse': lambda v: 1 + wide(rng, 16) if rng.random() < 0.02 else 0,
         'dense': lambda v: rng.randint(0, 8_000),
         'few': lambda v: rng.randint(0, 2),
+        'band': lambda v: min(most, 4_096) if low <= v <= high else 0,  # T falls on levels that are counted
         'geometric': lambda v: int(most * ratio ** (v - low)) if low <= v <= high else 0,
         'geometric down': lambda v: int(most * ratio ** (high - v)) if low <= v <= high else 0,
         'peaks': lambda v: int(900 / (1 + (v - low) ** 2 / 9) + 700 / (1 + (v - high) ** 2 / 25)),
@@ -216,23 +222,31 @@ def slow(low, mean, step):
     return [int(1_048_000 * share) for share in counts]
 
 
-HISTOGRAMS = 'sparse', 'dense', 'few', 'geometric', 'geometric down', 'peaks', 'one level', 'two levels', 'slow'
+HISTOGRAMS = ('sparse', 'dense', 'few', 'band', 'geometric', 'geometric down', 'peaks', 'one level', 'two levels', 'mirrored',
+              'slow')
 
 
 def two_means_arguments(rng):
     """A histogram: mostly good; else empty, its total at the bound or above, counts of 2^32 − 1, or of another length."""
     counts = histogram(rng, rng.choice(HISTOGRAMS))
     place = rng.randrange(256)
-    wrong = rng.choice(7 * ('nothing',) + ('bound', 'bound', 'wraps', 'empty', 'length'))
-    if wrong == 'bound' and sum(counts) - counts[place] < 1_048_576:
-        counts[place] += 1_048_576 - sum(counts) + rng.choice((-1, 0, 0, 1)) if sum(counts) < 1_048_576 else 0
-    if wrong == 'wraps':  # a total of 2^32 and a little more, in two counts or many
+    wrong = rng.choice(7 * ('nothing',) + ('bound', 'bound', 'wraps', 'wraps to a few', 'empty', 'length'))
+    rest = sum(counts) - counts[place]
+    if wrong == 'bound' and rest < 1_048_576:
+        counts[place] = 1_048_576 - rest + rng.choice((-1, 0, 0, 1))
+    if wrong == 'wraps':  # a total of about 2^32, 2^33 or 2^40
         for at in rng.sample(range(256), rng.choice((1, 2, 255, 256))):
             counts[at] = 2**32 - rng.choice((1, 1, 2))
+    if wrong == 'wraps to a few':  # a total that 32 bits would take for one in range
+        one, other = rng.sample(range(256), 2)
+        counts = [0] * 256
+        counts[one] = 2**32 - rng.randint(1, 2**20)
+        counts[other] = 2**32 - counts[one] + wide(rng, 20)
     if wrong == 'empty':
         counts = [0] * 256
     if wrong == 'length':
-        counts = rng.choice((counts[:255], counts + [0], counts + [1], [], [5], counts[:rng.randrange(256)], counts * 8, counts * 16))
+        counts = rng.choice((counts[:255], counts + [0], counts + [1], [0] * 255, [0] * 257, [], [5], counts[:rng.randrange(256)],
+                             counts * 8, counts * 16))
     return counts,
 
 
@@ -305,11 +319,14 @@ EXAMPLES = {
 
 
 def endings():
-    """Ways to end, each once whatever the seed: a request cut after each of its bytes, no input at all, no call."""
+    """Ways to end, each once whatever the seed: a request cut short, one that is a little too long, no input at all, no call."""
     for letter, example in sorted(EXAMPLES.items()):
         whole = wire.encoded(letter, *example)
-        # of a long one, after each of the first bytes and some of the rest
+        # after each of its bytes; of a long one, after the first sixty, the last, and some between
         yield from (whole + whole[:size] for size in range(len(whole) + 1) if size < 60 or size % 89 == 0 or size > len(whole) - 5)
+    for whole in (wire.encoded(b't', [1] * (wire.MOST_COUNTS + 1)), wire.encoded(b'c', [8], (wire.MOST_COUNTS + 1, 0)),
+                  wire.encoded(b'c', [8] * (wire.MOST + 1), (256, 0))):
+        yield from (whole, whole[:9])  # one element too many, whether it follows or not
     yield from (b'', b'?', b'\0', b'\xff' * 100)
 
 
@@ -330,7 +347,7 @@ def every_kind(rng, width, height):
 
 
 def large(rng):
-    """The largest picture, filtered and measured; the longest thin ones; slices and buffers as long as a request may have."""
+    """The largest picture, filtered and measured; the longest thin ones; the most values; slices and buffers as long as may be."""
     whole = picture(rng, 'random', 1_024, 1_024)
     made = wire.encoded(b'f', whole, 1_024, 1_024, (len(whole) + 1, fill(rng)), (len(whole), fill(rng)))
     seen = micrograph(rng, 1_024, 1_024, ground=(40, 200), noise=20)  # a ratio, whatever the seed
@@ -345,6 +362,7 @@ def large(rng):
         values = [rng.randint(0, 2_040) % most for _ in range(1_048_575)] + [most]
         made += wire.encoded(b'c', values, (256, fill(rng)))
     made += wire.encoded(b'c', [320] * 1_048_576, (256, fill(rng))) + wire.encoded(b'c', [320] * 1_048_577, (256, fill(rng)))
+    made += wire.encoded(b'c', [320] * 1_048_577, (255, fill(rng)))  # 10 comes before 15
     made += wire.encoded(b'f', whole + [1], 1_024, 1_024, (2, 3), (0, 0))  # one level too many: 2
     made += wire.encoded(b'f', whole, 1_024, 1_024, (2, 3), (wire.MOST, fill(rng)))  # 3
     return made + wire.encoded(b'f', [], 1, 1, (wire.MOST + 1, 0), (0, 0))  # a bad request

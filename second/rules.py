@@ -133,15 +133,22 @@ def two_means(histogram):
     threshold = Fraction(lowest if 128 < lowest else highest if 128 > highest else 128)
     rounds = 0
     while True:
-        # "a level equal to T is in both"
-        low = [level for level in present if level <= threshold]
-        high = [level for level in present if level >= threshold]
-        a, b = sum(level * histogram[level] for level in low), sum(histogram[level] for level in low)
-        c, e = sum(level * histogram[level] for level in high), sum(histogram[level] for level in high)
+        a, b, c, e = sides(histogram, threshold)
         after = (Fraction(a, b) + Fraction(c, e)) / 2
         if after == threshold:
             return 0, rounds, a * e + c * b, 2 * b * e
         threshold, rounds = after, rounds + 1
+
+
+def sides(histogram, threshold):
+    """"A, B the sum and number of levels ≤ the resting T, and C, E those ≥ T"; "a level equal to T is in both"."""
+    a = b = c = e = 0
+    for level, times in enumerate(histogram):
+        if level <= threshold:
+            a, b = a + level * times, b + times
+        if level >= threshold:
+            c, e = c + level * times, e + times
+    return a, b, c, e
 
 
 def length(factor, pixel):

@@ -36,10 +36,8 @@ def histogram(**counts):
 
 
 def rests(counts, level):
-    """Whether a whole threshold rests: half the sum of the two means, both with the level itself, is the level again."""
-    present = [(v, times) for v, times in enumerate(counts) if times]
-    a, b = (sum(part) for part in zip(*((v * times, times) for v, times in present if v <= level)))
-    c, e = (sum(part) for part in zip(*((v * times, times) for v, times in present if v >= level)))
+    """Whether a level rests as a threshold: half the sum of the two means is the level again."""
+    a, b, c, e = rules.sides(counts, level)
     return a * e + c * b == level * 2 * b * e
 
 

@@ -34,7 +34,7 @@ int main(void)
     /* a dark half and a bright half, each with a slope */
     for (int k = 0; k < PIXELS; k++) levels[k] = (uint8_t)(k % SIDE < 8 ? 40 + 3 * (k % SIDE) : 150 + 5 * (k % SIDE));
 
-    gong_filter(levels, PIXELS, SIDE, SIDE, output, PIXELS, work, PIXELS);
+    if (gong_filter(levels, PIXELS, SIDE, SIDE, output, PIXELS, work, PIXELS) != GONG_DONE) return 1;
     number = gong_count(output, PIXELS, histogram, LEVELS);
     printf("count: number %d, %" PRIu32 " at level 46\n", number, histogram[46]);
     part(histogram);

@@ -11,7 +11,8 @@ use Rattle.judge.specs.declared.Verdict.{Verdict}
 use Rattle.judge.specs.Judge.{verdict, JudgeIs}
 use Rattle.judge.proofs.Verdicts.{one-verdict}
 use Rattle.threshold.specs.declared.Threshold.{Threshold}
-use Rattle.threshold.specs.TwoMeans.{fraction, answered, TwoMeansIs}
+use Rattle.numbers.specs.Fractions.{fraction}
+use Rattle.threshold.specs.TwoMeans.{answered, TwoMeansIs}
 use Rattle.threshold.proofs.Outcomes.{one-threshold}
 use Rattle.length.specs.declared.Sharpness.{Sharpness}
 use Rattle.length.specs.Length.{answer, LengthIs}

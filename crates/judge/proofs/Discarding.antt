@@ -12,20 +12,22 @@ use Rattle.numbers.proofs.Order.{of-squares}
 use Rattle.numbers.proofs.Greatest.{next-has-not}
 use Rattle.units.specs.declared.Eighths.{Eighths}
 use Rattle.filter.specs.Filter.{eighths}
+use Rattle.numbers.specs.declared.Fraction.{Fraction}
+use Rattle.numbers.specs.Fractions.{fraction, NotMore}
 use Rattle.judge.specs.declared.Verdict.{Verdict}
 use Rattle.judge.specs.Extremes.{bright, dark}
 use Rattle.judge.specs.Judge.{InRange, BrightInRange, DarkInRange, Reaches, RatioIs, refused, JudgeIs}
 use Rattle.judge.specs.Measure.{Judged, Measurement, Measured}
-use Rattle.judge.specs.AnnexA.{Fraction, over, NotMore, plus, times, squared, span, deviationSquared, Within, RatioFrom, RatioTen, Unfit, Discarded, Exactly}
+use Rattle.judge.specs.AnnexA.{plus, times, squared, span, deviationSquared, Within, RatioFrom, RatioTen, Unfit, Discarded, Exactly}
 use Rattle.judge.proofs.Ratios.{reaches-falls}
 
 -- "So q is the ratio in hundredths": the document's inequality is the annex's for q/100
-pub reaches-is : (N : ℕ) (M m : Eighths) (D q : ℕ) → Exactly (Reaches N (M .0 - m .0) D q) (RatioFrom N M m D (over q 100))
+pub reaches-is : (N : ℕ) (M m : Eighths) (D q : ℕ) → Exactly (Reaches N (M .0 - m .0) D q) (RatioFrom N M m D (fraction q 100))
 reaches-is N M m D q = (λ h. omega (arith, h), λ h. omega (arith, h))
 
 -- "rounded down": the ratio is q hundredths or more, and not q + 1; or it is below 0, and q is 0
 pub rounded-down : (N : ℕ) (M m : Eighths) (D q : ℕ) → RatioIs N (M .0 - m .0) D q
-    → (RatioFrom N M m D (over q 100) × (¬ RatioFrom N M m D (over (q + 1) 100))) ⊎ (((k : ℕ) → ¬ RatioFrom N M m D (over k 100)) × (q ≡ 0))
+    → (RatioFrom N M m D (fraction q 100) × (¬ RatioFrom N M m D (fraction (q + 1) 100))) ⊎ (((k : ℕ) → ¬ RatioFrom N M m D (fraction k 100)) × (q ≡ 0))
 rounded-down N M m D q (inl g) = inl (reaches-is N M m D q .0 (g .holds), λ t. next-has-not g (reaches-is N M m D (q + 1) .1 t))
 rounded-down N M m D q (inr n) = inr (λ k t. n .0 k (reaches-is N M m D k .1 t), n .1)
 
@@ -39,25 +41,25 @@ ten-reaches N M m D = (λ h. omega (arith, h), λ h. omega (arith, h))
 -- deviation is a fraction, s is the deviation itself.)
 module _ (N : ℕ) (M m : Eighths) (D : ℕ) (r s : Fraction) where
   abbrev Plain : Type 0
-  Plain = NotMore (times (plus r (over 138 100)) s) (span M m)
+  Plain = NotMore (times (plus r (fraction 138 100)) s) (span M m)
 
   pub below-deviation : 1 ≤ N → NotMore (squared s) (deviationSquared N D) → RatioFrom N M m D r → Plain
-  below-deviation some below ratio = go (plus r (over 138 100) .upper) (plus r (over 138 100) .lower) ratio
+  below-deviation some below ratio = go (plus r (fraction 138 100) .numerator) (plus r (fraction 138 100) .denominator) ratio
     where
-      go : (a b : ℕ) → NotMore (times (squared (over a b)) (deviationSquared N D)) (squared (span M m)) → NotMore (times (over a b) s) (span M m)
+      go : (a b : ℕ) → NotMore (times (squared (fraction a b)) (deviationSquared N D)) (squared (span M m)) → NotMore (times (fraction a b) s) (span M m)
       go a b ratio =
           of-squares (le-of-mul-le-mul-right
-          (omega (arith, mul-le-mul-left (a * a * 16384) below, mul-le-mul-right (s .lower * s .lower) ratio))
+          (omega (arith, mul-le-mul-left (a * a * 16384) below, mul-le-mul-right (s .denominator * s .denominator) ratio))
           (let whole : 0 < 64 * (N * N) = omega (arith, mul-le-mul some some) in whole))
 
-  pub above-deviation : 1 ≤ s .lower → NotMore (deviationSquared N D) (squared s) → Plain → RatioFrom N M m D r
-  above-deviation some above plain = go (plus r (over 138 100) .upper) (plus r (over 138 100) .lower) plain
+  pub above-deviation : 1 ≤ s .denominator → NotMore (deviationSquared N D) (squared s) → Plain → RatioFrom N M m D r
+  above-deviation some above plain = go (plus r (fraction 138 100) .numerator) (plus r (fraction 138 100) .denominator) plain
     where
-      go : (a b : ℕ) → NotMore (times (over a b) s) (span M m) → NotMore (times (squared (over a b)) (deviationSquared N D)) (squared (span M m))
+      go : (a b : ℕ) → NotMore (times (fraction a b) s) (span M m) → NotMore (times (squared (fraction a b)) (deviationSquared N D)) (squared (span M m))
       go a b plain =
           le-of-mul-le-mul-right
           (omega (arith, mul-le-mul-left (a * a * 16384) above, mul-le-mul-right (64 * (N * N)) (mul-le-mul plain plain)))
-          (let whole : 0 < s .lower * s .lower = omega (arith, mul-le-mul some some) in whole)
+          (let whole : 0 < s .denominator * s .denominator = omega (arith, mul-le-mul some some) in whole)
 
 -- the range tests in eighths are the range tests in levels
 pub bright-is : (M : Eighths) → Exactly (BrightInRange M) (Within 170 245 M)

@@ -2,7 +2,7 @@
 -- and two small filtered pictures, cut into tiles. Assumes nothing.
 use mathlib.Core.Path.{_≡_, refl}
 use mathlib.Core.List.{List, [], _∷_}
-use mathlib.Core.Logic.{inl}
+use mathlib.Core.Logic.{inl, Dec·and, Dec·not}
 use mathlib.Core.Option.{Option, none, some, Option·map, get}
 use Prim.Native.Nat.{ℕ, _+_, _-_, _*_, _^_}
 use native.Mathlib.Nat.{not-le-of-lt}
@@ -10,7 +10,7 @@ use native.Mathlib.Decide.{decLe, decLt, ℕ-discrete}
 use Rattle.numbers.specs.Lists.{joined}
 use Rattle.numbers.specs.Sums.{sum}
 use Rattle.numbers.proofs.Greatest.{by-neighbours}
-use Rattle.numbers.proofs.Computed.{both, not, when, unless}
+use Rattle.numbers.proofs.Computed.{when, unless}
 use Rattle.units.specs.Units.{eighths}
 use Rattle.judge.specs.declared.Verdict.{Verdict}
 use Rattle.judge.specs.Extremes.{maximum, minimum, tile, overTiles}
@@ -33,13 +33,13 @@ row N M m D n q = record { count = N; bright = M; dark = m; spread = D; number =
 -- that the judge's promise permits the row, as Judge.antt says it
 module _ (N M m D n q : ℕ) where
   in-range : Dec (InRange N (eighths M) (eighths m) D)
-  in-range = elim (both (decLe 1 N) (both (decLe N 1048576) (both (decLe M 32640) (both (decLe m 32640) (decLe D (2 ^ 62)))))) [
+  in-range = elim (Dec·and (decLe 1 N) (Dec·and (decLe N 1048576) (Dec·and (decLe M 32640) (Dec·and (decLe m 32640) (decLe D (2 ^ 62)))))) [
     | yes p ↦ yes (record { count-low = p .0; count-high = p .1 .0; bright-high = p .1 .1 .0; dark-high = p .1 .1 .1 .0; spread-high = p .1 .1 .1 .1 })
     | no f ↦ no (λ r. f (r .count-low, (r .count-high, (r .bright-high, (r .dark-high, r .spread-high)))))
   ]
 
   back : (k : ℕ) → Option (verdict n q ≡ refused k)
-  back k = Option·map (λ p i. verdict (p .0 i) (p .1 i)) (when (both (ℕ-discrete n k) (ℕ-discrete q 0)))
+  back k = Option·map (λ p i. verdict (p .0 i) (p .1 i)) (when (Dec·and (ℕ-discrete n k) (ℕ-discrete q 0)))
 
   abbrev left : ℕ → ℕ
   left k = (k + 138) * (k + 138) * 256 * D
@@ -48,7 +48,7 @@ module _ (N M m D n q : ℕ) where
   right = 10000 * ((M - m) * (M - m)) * (N * N)
 
   rated : Option (Rated N (eighths M) (eighths m) D (verdict n q))
-  rated = elim (both (decLe (left q) right) (decLt right (left (q + 1)))) [
+  rated = elim (Dec·and (decLe (left q) right) (decLt right (left (q + 1)))) [
     | yes p ↦
         Option·map (λ number. record { ratio = inl (by-neighbours (reaches-falls N (M - m) D) (p .0) (not-le-of-lt (p .1))); number = number })
         (unless (decLe 1000 q) (when (ℕ-discrete n 9)) (when (ℕ-discrete n 0)))
@@ -58,9 +58,9 @@ module _ (N M m D n q : ℕ) where
   permitted : Option (JudgeIs N (eighths M) (eighths m) D (verdict n q))
   permitted =
       unless in-range (back 15)
-      (unless (both (decLe 21760 M) (decLe M 31360)) (back 6)
-      (unless (both (decLe 1280 m) (decLe m 10240)) (back 7)
-      (unless (not (ℕ-discrete D 0)) (back 8)
+      (unless (Dec·and (decLe 21760 M) (decLe M 31360)) (back 6)
+      (unless (Dec·and (decLe 1280 m) (decLe m 10240)) (back 7)
+      (unless (Dec·not (ℕ-discrete D 0)) (back 8)
       rated)))
 
 -- every row of a table holds: what the row gives to the judge has the row's verdict, and no other
@@ -98,7 +98,7 @@ table =
     ∷ []
 
 pub worked : Hold table
-unfolding decLe decLt ℕ-discrete both not when unless in-range back rated permitted every
+unfolding decLe decLt ℕ-discrete Dec·and Dec·not when unless in-range back rated permitted every
 worked = get (every table) tt
 
 -- ---- tiles: 1 to 32, row by row, as a picture 8 wide and 4 high, and as one 4 wide and 8 high

@@ -4,53 +4,44 @@
 use mathlib.Core.Path.{_≡_}
 use mathlib.Core.Logic.{_⊎_}
 use Prim.Native.Nat.{ℕ, _+_, _-_, _*_, _≤_}
+use Rattle.numbers.specs.declared.Fraction.{Fraction}
+use Rattle.numbers.specs.Fractions.{fraction, NotMore}
 use Rattle.units.specs.declared.Eighths.{Eighths}
 
--- a fraction of two whole numbers (each lower one below is at least 1, where N is)
-pub record Fraction : Type 0 where
-  pub upper : ℕ
-  pub lower : ℕ
-
-abbrev pub over : ℕ → ℕ → Fraction
-over a b = record { upper = a; lower = b }
-
-abbrev pub NotMore : Fraction → Fraction → Type 0
-NotMore a b = a .upper * b .lower ≤ b .upper * a .lower
-
 abbrev pub plus : Fraction → Fraction → Fraction
-plus a b = over (a .upper * b .lower + b .upper * a .lower) (a .lower * b .lower)
+plus a b = fraction (a .numerator * b .denominator + b .numerator * a .denominator) (a .denominator * b .denominator)
 
 abbrev pub times : Fraction → Fraction → Fraction
-times a b = over (a .upper * b .upper) (a .lower * b .lower)
+times a b = fraction (a .numerator * b .numerator) (a .denominator * b .denominator)
 
 abbrev pub squared : Fraction → Fraction
 squared a = times a a
 
 -- "So an average level a means a sum of 128·a."
 abbrev pub average : Eighths → Fraction
-average s = over (s .0) 128
+average s = fraction (s .0) 128
 
 -- "the averages must satisfy 170 ≤ bright ≤ 245 and 10 ≤ dark ≤ 80"
 abbrev pub Within : ℕ → ℕ → Eighths → Type 0
-Within low high s = NotMore (over low 1) (average s) × NotMore (average s) (over high 1)
+Within low high s = NotMore (fraction low 1) (average s) × NotMore (average s) (fraction high 1)
 
 -- bright − dark (where both are within their ranges bright is the greater)
 abbrev pub span : Eighths → Eighths → Fraction
-span M m = over (M .0 - m .0) 128
+span M m = fraction (M .0 - m .0) 128
 
 -- "The noise deviation squared is D/(64·N²)."
 abbrev pub deviationSquared : ℕ → ℕ → Fraction
-deviationSquared N D = over D (64 * (N * N))
+deviationSquared N D = fraction D (64 * (N * N))
 
 -- "Image contrast is (bright − dark) less 1.38 deviations; the ratio is contrast over deviation": that this ratio is r or more says
 -- bright − dark − 1.38·s ≥ r·s for the deviation s, so that (r + 1.38)·s ≤ bright − dark; and here both sides are squared, since s
 -- is a root.
 abbrev pub RatioFrom : ℕ → Eighths → Eighths → ℕ → Fraction → Type 0
-RatioFrom N M m D r = NotMore (times (squared (plus r (over 138 100))) (deviationSquared N D)) (squared (span M m))
+RatioFrom N M m D r = NotMore (times (squared (plus r (fraction 138 100))) (deviationSquared N D)) (squared (span M m))
 
 -- "must be 10 or more"
 abbrev pub RatioTen : ℕ → Eighths → Eighths → ℕ → Type 0
-RatioTen N M m D = RatioFrom N M m D (over 10 1)
+RatioTen N M m D = RatioFrom N M m D (fraction 10 1)
 
 -- a stated range is left, the noise is nil or the ratio is below 10
 abbrev pub Unfit : ℕ → Eighths → Eighths → ℕ → Type 0

@@ -1,8 +1,9 @@
 -- Laws of the greatest of a kind: there is one at most, and halving an interval finds it; and of the least: there is one at most,
 -- and there is one where some number has the property and each can be tested. Assumes nothing.
-use mathlib.Core.Path.{_≡_}
+use mathlib.Core.Path.{_≡_, sym, subst}
+use mathlib.Core.Logic.{⊎-elim}
 use Prim.Native.Nat.{ℕ, zero, suc, _+_, _<_, _≤_, zero-le}
-use native.Mathlib.Nat.{le-antisymm, lt-of-not-le}
+use native.Mathlib.Nat.{le-antisymm, lt-of-not-le, eq-or-lt-of-le}
 use native.Mathlib.Omega.{arith}
 use Rattle.numbers.specs.Greatest.{Greatest, Least, Between}
 
@@ -51,21 +52,22 @@ module _ {P : ℕ → Type 0} {lo hi : ℕ} (in-it : Between P lo hi) where
   narrowed width =
       record { holds = in-it .low; most = λ (k : ℕ) (h : P k). let b : k < hi = in-it .high k h in omega arith }
 
--- where 0 does not have the property, the least number that has it is the next after q, the least whose next number has it
-next-least : {P : ℕ → Type 0} {q : ℕ} → ¬ P 0 → Least (λ k. P (suc k)) q → Least P (suc q)
+-- where 0 does not have the property, the least number that has it is one more than the least whose next number has it
+pub next-least : {P : ℕ → Type 0} {q : ℕ} → ¬ P 0 → Least (λ k. P (suc k)) q → Least P (suc q)
 next-least {P} {q} not-first l = record { holds = l .holds; least = from }
   where
     from : (k : ℕ) → P k → suc q ≤ k
     from zero h = absurd (not-first h)
     from (suc k) h = let b : q ≤ k = l .least k h in omega arith
 
--- where n has the property, and each number can be tested, there is a least one, and it is at most n
-pub least-found : {P : ℕ → Type 0} → ((k : ℕ) → Dec (P k)) → (n : ℕ) → P n → (k : ℕ) × (k ≤ n) × Least P k
-least-found test zero at = (0, zero-le, record { holds = at; least = λ k h. zero-le })
+-- where all that have the property are from k on, and k does not have it, they are from the next number on
+pub not-yet : {P : ℕ → Type 0} {k : ℕ} → ((j : ℕ) → P j → k ≤ j) → ¬ P k → (j : ℕ) → P j → suc k ≤ j
+not-yet {P} {k} from here j h = ⊎-elim (λ (e : k ≡ j). absurd (here (subst P (sym e) h))) (λ later. later) (eq-or-lt-of-le (from j h))
+
+-- where some number has the property, and each can be tested, there is a least one
+pub least-found : {P : ℕ → Type 0} → ((k : ℕ) → Dec (P k)) → (n : ℕ) → P n → (k : ℕ) × Least P k
+least-found test zero at = (0, record { holds = at; least = λ k h. zero-le })
 least-found {P} test (suc n) at = elim (test 0) [
-  | yes h ↦ (0, zero-le, record { holds = h; least = λ k g. zero-le })
-  | no f ↦
-      let r = least-found {P = λ k. P (suc k)} (λ k. test (suc k)) n at in
-      let b : r .0 ≤ n = r .1 in
-      (suc (r .0), omega arith, next-least f (r .2))
+  | yes h ↦ (0, record { holds = h; least = λ k g. zero-le })
+  | no f ↦ let r = least-found {P = λ k. P (suc k)} (λ k. test (suc k)) n at in (suc (r .0), next-least f (r .1))
 ]

@@ -6,3 +6,4 @@ pub mod Lists
 pub mod Sums
 pub mod Casts
 pub mod Computed
+pub mod Fractions

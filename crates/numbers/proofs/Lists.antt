@@ -1,14 +1,15 @@
--- Laws of lists that are joined, how long they are and what stands where, and of lists whose elements are at most b.
--- Assumes nothing.
+-- Laws of lists that are joined, how long they are and what stands where, of lists whose elements are at most b, and of lists whose places
+-- are set one after the other. Assumes nothing.
 use mathlib.Core.Path.{_≡_, refl, sym, _∙_}
 use mathlib.Core.List.{List, [], _∷_, _++_}
 use Prim.Native.Nat.{ℕ, zero, suc, _+_, _*_, _<_, _≤_, zero-le}
 use native.Mathlib.Nat.{zero-mul, suc-mul, mul-le-mul-right}
-use native.Mathlib.Decide.{decLt}
+use native.Mathlib.Decide.{decLt, ℕ-discrete}
 use native.Mathlib.Omega.{arith}
-use lib.ListN.{length, getD, take, drop, replicate, length-append, List·getD-append}
-use lib.Seq.{slice, getD-append-add, getD-take, getD-drop}
+use lib.ListN.{length, getD, set, take, drop, replicate, length-set, length-append, List·getD-append}
+use lib.Seq.{slice, getD-append-add, getD-take, getD-drop, getD-set-same, getD-set-other, ext-getD}
 use Rattle.numbers.specs.Lists.{joined, AtMost}
+use Rattle.numbers.proofs.Refusals.{alike}
 
 -- n lists of w elements have n·w elements together
 pub length-joined : (n w : ℕ) (f : ℕ → List ℕ) → ((k : ℕ) → k < n → length (f k) ≡ w) → length (joined n f) ≡ n * w
@@ -52,11 +53,15 @@ pub append-most : (b : ℕ) (l m : List ℕ) → AtMost b (l ++ m) → AtMost b 
 append-most b [] m p k = p k
 append-most b (x ∷ l) m p k = append-most b l m (λ i. p (suc i)) k
 
+-- of n that are all x
+pub most-equal : (b n x : ℕ) → x ≤ b → AtMost b (replicate n x)
+most-equal b zero x p k = zero-le
+most-equal b (suc n) x p zero = p
+most-equal b (suc n) x p (suc k) = most-equal b n x p k
+
 -- of zeros, as a block's places are before its levels are put in
 pub most-zeros : (b n : ℕ) → AtMost b (replicate n 0)
-most-zeros b zero k = zero-le
-most-zeros b (suc n) zero = zero-le
-most-zeros b (suc n) (suc k) = most-zeros b n k
+most-zeros b n = most-equal b n 0 zero-le
 
 pub most-take : (b n : ℕ) (l : List ℕ) → AtMost b l → AtMost b (take n l)
 most-take b zero l p k = zero-le
@@ -84,3 +89,27 @@ pub joined-same : (n : ℕ) (f g : ℕ → List ℕ) → ((k : ℕ) → f k ≡ 
 unfolding joined
 joined-same zero f g p = refl
 joined-same (suc n) f g p = rw (joined-same n f g p, p n)
+
+-- Lists whose places are set one after the other.
+-- of n places the first i have what f says
+pub record Written (f : ℕ → ℕ) (n : ℕ) (l : List ℕ) (i : ℕ) : Type 0 where
+  pub places : length l ≡ n
+  pub are : (v : ℕ) → v < i → getD l v 0 ≡ f v
+
+-- before the first is set
+pub written-none : (f : ℕ → ℕ) {n : ℕ} (l : List ℕ) → length l ≡ n → Written f n l 0
+written-none f l long = record { places = long; are = λ v h. absurd (let z : ⊥ = omega arith in z) }
+
+-- one place more
+pub written-more : (f : ℕ → ℕ) {n : ℕ} (l : List ℕ) (i x : ℕ) → i < n → x ≡ f i → Written f n l i → Written f n (set l i x) (i + 1)
+written-more f l i x here is so-far = record { places = length-set l i x ∙ so-far .places; are = are }
+  where
+    are : (v : ℕ) → v < i + 1 → getD (set l i x) v 0 ≡ f v
+    are v h = elim (ℕ-discrete v i) [
+      | yes e ↦ rw e (getD-set-same l i x 0 (omega (arith, so-far .places)) ∙ is)
+      | no g ↦ getD-set-other l i v x 0 g ∙ so-far .are v (omega arith)
+    ]
+
+-- all places, where f says what another list of as many has
+pub written-all : (l m : List ℕ) {n : ℕ} (i : ℕ) → n ≤ i → length m ≡ n → Written (λ v. getD m v 0) n l i → l ≡ m
+written-all l m i all long so-far = ext-getD 0 l m (alike (so-far .places) long) (λ v h. so-far .are v (omega (arith, so-far .places)))

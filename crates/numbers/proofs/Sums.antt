@@ -1,9 +1,9 @@
 -- Laws of sums: one number more, two sums in one, a part more, bounds, that the square of a sum is at most n times the sum of the squares,
 -- and what sums of signed numbers come to. Assumes nothing.
-use mathlib.Core.Path.{_≡_, refl}
+use mathlib.Core.Path.{_≡_, refl, sym}
 use mathlib.Core.Logic.{⊎-elim}
 use Prim.Native.Nat.{ℕ, zero, suc, _+_, _-_, _*_, _<_, _≤_, zero-le}
-use native.Mathlib.Nat.{add-mul, mul-add, mul-comm, suc-mul, mul-zero}
+use native.Mathlib.Nat.{add-mul, mul-add, mul-comm, suc-mul, mul-zero, zero-mul}
 use native.Mathlib.Numerals.{add-one}
 use native.Mathlib.Omega.{arith}
 use lib.IntN.{ℤ, pos, _-ℤ_}
@@ -31,6 +31,12 @@ unfolding sum
 sum-same zero f g p = refl
 sum-same (suc n) f g p = omega (arith, sum-same n f g (λ i l. p i (omega arith)), p n (omega arith))
 
+-- n numbers that are all c
+pub sum-equal : (c n : ℕ) (f : ℕ → ℕ) → ((i : ℕ) → i < n → f i ≡ c) → sum n f ≡ n * c
+unfolding sum
+sum-equal c zero f p = sym (zero-mul c)
+sum-equal c (suc n) f p = omega (arith, sum-equal c n f (λ i l. p i (omega arith)), p n (omega arith), suc-mul n c)
+
 -- the sum of the numbers of two sums, taken in pairs
 pub sum-add : (n : ℕ) (f g : ℕ → ℕ) → sum n (λ i. f i + g i) ≡ sum n f + sum n g
 unfolding sum
@@ -42,6 +48,10 @@ pub sum-parts : (a n : ℕ) (f : ℕ → ℕ) → sum (a + n) f ≡ sum a f + su
 unfolding sum
 sum-parts a zero f = let e : a + 0 ≡ a = omega arith in let z : sum a f + 0 ≡ sum a f = omega arith in rw (e, z)
 sum-parts a (suc n) f = let e : a + suc n ≡ suc (a + n) = omega arith in rw e (omega (arith, sum-parts a n f))
+
+-- a part of a sum is at most all of it
+pub sum-part : (f : ℕ → ℕ) {k n : ℕ} → k ≤ n → sum k f ≤ sum n f
+sum-part f {k} {n} in-it = let e : n ≡ k + (n - k) = omega arith in rw e (omega (arith, sum-parts k (n - k) f))
 
 -- a sum goes on with the sum of n numbers that are the next n
 pub sum-goes-on : (a n : ℕ) (f g : ℕ → ℕ) → ((i : ℕ) → i < n → g i ≡ f (a + i)) → sum a f + sum n g ≡ sum (a + n) f

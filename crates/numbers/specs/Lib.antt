@@ -3,3 +3,4 @@ pub mod Greatest
 pub mod Signed
 pub mod Lists
 pub mod Sums
+pub mod Fractions

@@ -1,10 +1,17 @@
-// What several crates cite: the numbers that come back (`table`), and, in specs/ and proofs/, the
-// chain of refusals, the greatest of a kind and how halving finds it, signed numbers beside natural
-// ones, sums, and lists. Laws are shared from here; the one function is total.
+// What several crates cite: the numbers that come back (`table`), fractions, and, in specs/ and
+// proofs/, the chain of refusals, the greatest of a kind and how halving finds it, the least of a kind,
+// signed numbers beside natural ones, sums, lists, and tests that are computed. Laws are shared from
+// here; the one function is total.
 pub mod table;
 
 ghost use mathlib.Core.Path.{_≡_};
 ghost use Rattle.numbers.specs.Signed.{natOf};
+
+// A fraction: a pair of whole numbers, not reduced.
+pub struct Fraction {
+    pub numerator: u64,
+    pub denominator: u64,
+}
 
 // A signed number as a natural one: 0 where it is negative.
 pub fn natural(x: i64) -> u64

@@ -2,24 +2,25 @@
 -- histogram with three that rest. Assumes nothing.
 use mathlib.Core.Path.{_≡_, refl, sym, subst}
 use mathlib.Core.List.{List, [], _∷_}
-use mathlib.Core.Logic.{⊎-elim}
+use mathlib.Core.Logic.{Dec·and, Dec·not}
 use mathlib.Core.Option.{Option, none, some, Option·map, get}
-use Prim.Native.Nat.{ℕ, suc, _+_, _<_, _≤_}
-use native.Mathlib.Nat.{pos-of-ne-zero, eq-or-lt-of-le, zero-add}
+use Prim.Native.Nat.{ℕ, suc, _+_, _≤_, zero-le}
+use native.Mathlib.Nat.{pos-of-ne-zero, zero-add}
 use native.Mathlib.Decide.{decLe, ℕ-discrete}
 use native.Mathlib.Omega.{arith}
 use lib.ListN.{length, replicate, set}
 use Rattle.numbers.specs.Greatest.{Least}
 use Rattle.numbers.specs.Sums.{sum}
-use Rattle.numbers.proofs.Order.{le-or-lt}
+use Rattle.numbers.specs.Fractions.{fraction}
+use Rattle.numbers.proofs.Greatest.{not-yet}
+use Rattle.numbers.proofs.Fractions.{one-pair-or-not}
 use Rattle.numbers.proofs.Refusals.{goes-on}
-use Rattle.numbers.proofs.Computed.{both, not, when}
-use Rattle.threshold.specs.declared.Fraction.{Fraction}
+use Rattle.numbers.proofs.Computed.{when}
+use Rattle.numbers.specs.declared.Fraction.{Fraction}
 use Rattle.threshold.specs.declared.Threshold.{Threshold}
 use Rattle.threshold.specs.Histogram.{total}
-use Rattle.threshold.specs.TwoMeans.{fraction, level, start, over, round, Rests, threshold, Settled, answered, Done, TwoMeansIs}
-use Rattle.threshold.proofs.Fractions.{same-fraction}
-use Rattle.threshold.proofs.Sequence.{rests-or-not}
+use Rattle.threshold.specs.TwoMeans.{level, start, sumOver, round, Rests, threshold, Settled, answered, Done, TwoMeansIs}
+use Rattle.threshold.proofs.Sequence.{within-or-not, rests-or-not}
 use Rattle.threshold.proofs.Demand.{RestsAt, settled}
 use Rattle.threshold.proofs.Outcomes.{one-threshold}
 
@@ -29,23 +30,18 @@ Walk h T [] U = Rests h T × (round h T ≡ U)
 Walk h T (S ∷ l) U = (¬ Rests h T) × ((round h T ≡ S) × Walk h S l U)
 
 walks : (h : List ℕ) (T : Fraction) (l : List Fraction) (U : Fraction) → Dec (Walk h T l U)
-walks h T [] U = both (rests-or-not h T) (same-fraction (round h T) U)
-walks h T (S ∷ l) U = both (not (rests-or-not h T)) (both (same-fraction (round h T) S) (walks h S l U))
+walks h T [] U = Dec·and (rests-or-not h T) (one-pair-or-not (round h T) U)
+walks h T (S ∷ l) U = Dec·and (Dec·not (rests-or-not h T)) (Dec·and (one-pair-or-not (round h T) S) (walks h S l U))
 
 module _ (m : ℕ) (h : List ℕ) where
   -- a walk from threshold k on, where none before it rests, ends at the first that does
-  first-of : (l : List Fraction) (k : ℕ) (U : Fraction) → ((j : ℕ) → j < k → ¬ RestsAt m h j) → Walk h (threshold m h k) l U
+  first-of : (l : List Fraction) (k : ℕ) (U : Fraction) → ((j : ℕ) → RestsAt m h j → k ≤ j) → Walk h (threshold m h k) l U
       → Least (RestsAt m h) (k + length l) × (round h (threshold m h (k + length l)) ≡ U)
   unfolding threshold
-  first-of [] k U before walk =
-      let z : k + 0 ≡ k = omega arith in
-      rw z (record { holds = walk .0; least = λ j r. ⊎-elim (λ (l : k ≤ j). l) (λ (sooner : j < k). absurd (before j sooner r)) (le-or-lt k j) }, walk .1)
-  first-of (S ∷ l) k U before walk =
+  first-of [] k U from walk = let z : k + 0 ≡ k = omega arith in rw z (record { holds = walk .0; least = from }, walk .1)
+  first-of (S ∷ l) k U from walk =
       let z : k + suc (length l) ≡ suc k + length l = omega arith in
-      rw z
-      (first-of l (suc k) U
-      (λ j less. ⊎-elim (λ (e : j ≡ k). λ r. walk .0 (subst (RestsAt m h) e r)) (λ (sooner : j < k). before j sooner) (eq-or-lt-of-le (omega arith)))
-      (subst (λ (R : Fraction). Walk h R l U) (sym (walk .1 .0)) (walk .1 .1)))
+      rw z (first-of l (suc k) U (not-yet from (walk .0)) (subst (λ (R : Fraction). Walk h R l U) (sym (walk .1 .0)) (walk .1 .1)))
 
 -- ---- a row of the table: the counts as pairs of a level and how often, the thresholds from the start to rest, and the answer
 pub record Row : Type 0 where
@@ -62,42 +58,52 @@ abbrev pub histogram : List (ℕ × ℕ) → List ℕ
 histogram [] = replicate 256 0
 histogram (c ∷ cs) = set (histogram cs) (c .0) (c .1)
 
--- that the promise permits the row, as TwoMeans.antt says it
+-- The row holds of a histogram: from the start v the thresholds are those of the walk, and the answer has as many rounds as the walk has
+-- steps, and no other answer is permitted.
+abbrev pub Holds : List ℕ → ℕ → List Fraction → Fraction → Type 0
+Holds h v l U =
+    (start 128 h ≡ level v) × (Walk h (level v) l U × ((t : Threshold) → TwoMeansIs h t → t ≡ answered 0 (length l) U))
+
 module _ (h : List ℕ) (v : ℕ) (l : List Fraction) (U : Fraction) where
-  done : ¬ (total h ≡ 0) → Option (Done 128 h (answered 0 (length l) U))
+  taken : Dec ((length h ≡ 256) × ((¬ (total h ≡ 0)) × (total h ≤ 1048576)))
+  taken = Dec·and (ℕ-discrete (length h) 256) (Dec·and (Dec·not (ℕ-discrete (total h) 0)) (decLe (total h) 1048576))
+
+  done : ¬ (total h ≡ 0) → start 128 h ≡ level v → Walk h (level v) l U → Done 128 h (answered 0 (length l) U)
   unfolding threshold
-  done not-empty = elim (both (same-fraction (start 128 h) (level v)) (walks h (level v) l U)) [
+  done not-empty starts walk =
+      let begun : Walk h (start 128 h) l U = subst (λ (R : Fraction). Walk h R l U) (sym starts) walk in
+      let walked = first-of 128 h l 0 U (λ j r. zero-le) begun in
+      let f = rw (zero-add (length l)) at walked in
+      record { number = refl; settled = subst (Settled 128 h (length l)) (f .1) (settled 128 h (pos-of-ne-zero not-empty) (length l) (f .0)) }
+
+  holds : Option (Holds h v l U)
+  holds = elim (Dec·and taken (Dec·and (one-pair-or-not (start 128 h) (level v)) (walks h (level v) l U))) [
     | yes p ↦
-        let begun : Walk h (start 128 h) l U = subst (λ (R : Fraction). Walk h R l U) (sym (p .0)) (p .1) in
-        let walked = first-of 128 h l 0 U (λ j less. absurd (let none : ⊥ = omega arith in none)) begun in
-        let f = rw (zero-add (length l)) at walked in
-        some (record { number = refl; settled = subst (Settled 128 h (length l)) (f .1) (settled 128 h (pos-of-ne-zero not-empty) (length l) (f .0)) })
+        some (
+          p .1 .0,
+          (
+            p .1 .1,
+            λ t is.
+                one-threshold h t (answered 0 (length l) U) is
+                (goes-on (p .0 .0) (goes-on (p .0 .1 .0) (goes-on (p .0 .1 .1) (done (p .0 .1 .0) (p .1 .0) (p .1 .1))))),
+          ),
+        )
     | no f ↦ none
   ]
 
-  permitted : Option (TwoMeansIs h (answered 0 (length l) U))
-  permitted = elim (both (ℕ-discrete (length h) 256) (both (not (ℕ-discrete (total h) 0)) (decLe (total h) 1048576))) [
-    | yes p ↦ Option·map (λ d. goes-on (p .0) (goes-on (p .1 .0) (goes-on (p .1 .1) d))) (done (p .1 .0))
-    | no f ↦ none
-  ]
-
--- every row of a table holds: the threshold of the row's histogram has the row's rounds and answer, and no other
+-- every row of a table holds
 abbrev pub Hold : List Row → Type 0
 Hold [] = Unit {0}
-Hold (r ∷ l) =
-    ((t : Threshold) → TwoMeansIs (histogram (r .counts)) t → t ≡ answered 0 (length (r .on-the-way)) (r .answer)) × Hold l
+Hold (r ∷ l) = Holds (histogram (r .counts)) (r .start-at) (r .on-the-way) (r .answer) × Hold l
 
 every : (l : List Row) → Option (Hold l)
 every [] = some tt
-every (r ∷ l) = elim (permitted (histogram (r .counts)) (r .start-at) (r .on-the-way) (r .answer)) [
-  | some p ↦
-      Option·map
-      (λ rest. (λ t is. one-threshold (histogram (r .counts)) t (answered 0 (length (r .on-the-way)) (r .answer)) is p, rest))
-      (every l)
+every (r ∷ l) = elim (holds (histogram (r .counts)) (r .start-at) (r .on-the-way) (r .answer)) [
+  | some p ↦ Option·map (λ rest. (p, rest)) (every l)
   | none ↦ none
 ]
 
--- the document's three and its picture of all 40; and the two of docs/why-it-rests.md
+-- the document's three, the histogram of its picture of all 40, and two of docs/why-it-rests.md
 abbrev pub table : List Row
 table =
     row ((0, 1) ∷ (255, 1) ∷ []) 128 (fraction 255 2 ∷ []) (fraction 255 2)
@@ -109,10 +115,10 @@ table =
     ∷ []
 
 pub worked : Hold table
-unfolding decLe ℕ-discrete both not sum over total start round rests-or-not same-fraction walks done permitted every
+unfolding decLe ℕ-discrete Dec·and Dec·not sum sumOver total start round within-or-not rests-or-not one-pair-or-not walks taken holds every
 worked = get (every table) tt
 
 -- "though 121 and 135 rest too"
 pub also-rest : Rests (histogram ((100, 1) ∷ (128, 1) ∷ (156, 1) ∷ [])) (level 121) × Rests (histogram ((100, 1) ∷ (128, 1) ∷ (156, 1) ∷ [])) (level 135)
-unfolding decLe ℕ-discrete both when sum over total round rests-or-not
+unfolding decLe ℕ-discrete Dec·and when sum sumOver total round within-or-not rests-or-not
 also-rest = (get (when (rests-or-not _ (level 121))) tt, get (when (rests-or-not _ (level 135))) tt)

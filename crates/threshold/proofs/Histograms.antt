@@ -11,7 +11,7 @@ use native.Mathlib.Decide.{decLt, ℕ-discrete}
 use native.Mathlib.Omega.{arith}
 use lib.Dec.{eqb, leb}
 use lib.ListN.{length, getD, set, replicate, length-set, length-replicate, getD-replicate, List·getD-eq-default}
-use lib.Seq.{getD-set-same, getD-set-other, ext-getD}
+use lib.Seq.{getD-set-same, getD-set-other}
 use borrow.Author.Tests.{not-true, not-false, eq-eqb, ne-eqb, le-leb, lt-leb}
 use Rattle.numbers.specs.Refusals.{Unless}
 use Rattle.numbers.specs.Greatest.{Least}
@@ -21,7 +21,7 @@ use Rattle.numbers.proofs.Refusals.{stops, goes-on, alike}
 use Rattle.numbers.proofs.Order.{le-or-lt}
 use Rattle.numbers.proofs.Sums.{sum-none, sum-more, sum-most, sum-same, sum-add, sum-goes-on}
 use Rattle.threshold.specs.Histogram.{addedAt, countOf, total, Countable, tally, Counted}
-use Rattle.threshold.specs.Asked.{Added}
+use Rattle.threshold.specs.Asked.{addedFrom, Added}
 
 -- ---- the greatest value
 -- `most` is the greatest of the first i values
@@ -75,30 +75,6 @@ is-countable values (inr ok) h = ok .0
 level-below : (values : List ℕ) (k : ℕ) → Countable values → getD values k 0 / 8 < 256
 level-below values k ok = let b : getD values k 0 ≤ 2040 = ok .small k in omega arith
 
--- ---- places set one after the other
--- the first i of 256 places have what f says
-pub record Written (f : ℕ → ℕ) (l : List ℕ) (i : ℕ) : Type 0 where
-  pub places : length l ≡ 256
-  pub are : (v : ℕ) → v < i → getD l v 0 ≡ f v
-
--- before the first
-pub written-none : (f : ℕ → ℕ) (l : List ℕ) → length l ≡ 256 → Written f l 0
-written-none f l long = record { places = long; are = λ v h. absurd (let z : ⊥ = omega arith in z) }
-
--- one place more
-pub written-more : (f : ℕ → ℕ) (l : List ℕ) (i x : ℕ) → i < 256 → x ≡ f i → Written f l i → Written f (set l i x) (i + 1)
-written-more f l i x here is so-far = record { places = length-set l i x ∙ so-far .places; are = are }
-  where
-    are : (v : ℕ) → v < i + 1 → getD (set l i x) v 0 ≡ f v
-    are v h = elim (ℕ-discrete v i) [
-      | yes e ↦ rw e (getD-set-same l i x 0 (omega (arith, so-far .places)) ∙ is)
-      | no n ↦ getD-set-other l i v x 0 n ∙ so-far .are v (omega arith)
-    ]
-
--- all places, where f says what another list of 256 has
-pub written-all : (l m : List ℕ) (i : ℕ) → 256 ≤ i → length m ≡ 256 → Written (λ v. getD m v 0) l i → l ≡ m
-written-all l m i all long so-far = ext-getD 0 l m (alike (so-far .places) long) (λ v h. so-far .are v (omega (arith, so-far .places)))
-
 -- ---- what is added
 -- what a value x adds at level v
 abbrev one : ℕ → ℕ → ℕ
@@ -133,36 +109,36 @@ ones x (suc n) h = elim (ℕ-discrete n (x / 8)) [
 
 module _ (values : List ℕ) (a : ℕ) where
   -- no values add nothing
-  added-none : (v : ℕ) → addedAt values a 0 v ≡ 0
-  unfolding addedAt
+  added-none : (v : ℕ) → addedFrom values a 0 v ≡ 0
+  unfolding addedFrom
   added-none v = sum-none (λ i. one (getD values (a + i) 0) v)
 
   -- one value more adds one at its level
-  added-more : (n v : ℕ) → addedAt values a (n + 1) v ≡ addedAt values a n v + one (getD values (a + n) 0) v
-  unfolding addedAt
+  added-more : (n v : ℕ) → addedFrom values a (n + 1) v ≡ addedFrom values a n v + one (getD values (a + n) 0) v
+  unfolding addedFrom
   added-more n v = sum-more n (λ i. one (getD values (a + i) 0) v)
 
   -- two parts, one after the other
-  added-parts : (m n v : ℕ) → addedAt values a m v + addedAt values (a + m) n v ≡ addedAt values a (m + n) v
-  unfolding addedAt
+  added-parts : (m n v : ℕ) → addedFrom values a m v + addedFrom values (a + m) n v ≡ addedFrom values a (m + n) v
+  unfolding addedFrom
   added-parts m n v =
       sum-goes-on m n (λ i. one (getD values (a + i) 0) v) (λ i. one (getD values (a + m + i) 0) v)
       (λ i h. ap (λ (k : ℕ). one (getD values k 0) v) (add-assoc a m i))
 
   -- n values add at most n
-  added-most : (n v : ℕ) → addedAt values a n v ≤ n
-  unfolding addedAt
+  added-most : (n v : ℕ) → addedFrom values a n v ≤ n
+  unfolding addedFrom
   added-most n v = omega (arith, sum-most 1 n (λ i. one (getD values (a + i) 0) v) (λ i. one-most (getD values (a + i) 0) v))
 
   -- at all levels together, n values that can be counted add n
-  added-all : Countable values → (n : ℕ) → sum 256 (addedAt values a n) ≡ n
-  added-all ok zero = omega (arith, sum-most 0 256 (addedAt values a 0) (λ v. omega (arith, added-none v)))
+  added-all : Countable values → (n : ℕ) → sum 256 (addedFrom values a n) ≡ n
+  added-all ok zero = omega (arith, sum-most 0 256 (addedFrom values a 0) (λ v. omega (arith, added-none v)))
   added-all ok (suc n) =
       let x : ℕ = getD values (a + n) 0 in
       omega (
         arith,
-        sum-same 256 (addedAt values a (suc n)) (λ v. addedAt values a n v + one x v) (λ v h. rw (← add-one n) (added-more n v)),
-        sum-add 256 (addedAt values a n) (one x),
+        sum-same 256 (addedFrom values a (suc n)) (λ v. addedFrom values a n v + one x v) (λ v h. rw (← add-one n) (added-more n v)),
+        sum-add 256 (addedFrom values a n) (one x),
         added-all ok n,
         ones x 256 (level-below values (a + n) ok),
       )
@@ -189,10 +165,10 @@ module _ (values : List ℕ) (a : ℕ) where
       here : l < 256
       here = level-below values k ok
 
-      at-it : countOf (set counts l more) l ≡ addedAt values a n l + one x l
+      at-it : countOf (set counts l more) l ≡ addedFrom values a n l + one x l
       at-it = getD-set-same counts l more 0 (omega (arith, so-far .places, here)) ∙ omega (arith, so-far .counts-are l here, one-at x l refl)
 
-      are : (v : ℕ) → v < 256 → countOf (set counts l more) v ≡ addedAt values a (n + 1) v
+      are : (v : ℕ) → v < 256 → countOf (set counts l more) v ≡ addedFrom values a (n + 1) v
       are v h = rw (added-more n v, ← next) (elim (ℕ-discrete v l) [
         | yes e ↦ rw e at-it
         | no d ↦ getD-set-other counts l v more 0 d ∙ omega (arith, so-far .counts-are v h, one-elsewhere x v d)
@@ -221,6 +197,13 @@ counts-together values early late counts m n all e l r =
     })
 
 -- ---- the histogram
+-- all values are those from the first on
+added-whole : (values : List ℕ) (v : ℕ) → addedAt values v ≡ addedFrom values 0 (length values) v
+unfolding addedAt addedFrom
+added-whole values v =
+    sum-same (length values) (λ i. one (getD values i 0) v) (λ i. one (getD values (0 + i) 0) v)
+    (λ i h. ap (λ (k : ℕ). one (getD values k 0) v) (sym (zero-add i)))
+
 -- what is counted and put into the histogram
 pub count-done : (values counts histogram : List ℕ) → Countable values → Added values 0 (length values) counts → histogram ≡ counts
     → Counted values (tally 0 histogram)
@@ -230,8 +213,8 @@ count-done values counts histogram ok all put =
     (record {
       number = refl;
       places = all .places;
-      counts = all .counts-are;
+      counts = λ v h. alike (all .counts-are v h) (added-whole values v);
       total-is =
           rw (all .places)
-          (sum-same 256 (countOf counts) (addedAt values 0 (length values)) (all .counts-are) ∙ added-all values 0 ok (length values));
+          (sum-same 256 (countOf counts) (addedFrom values 0 (length values)) (all .counts-are) ∙ added-all values 0 ok (length values));
     })

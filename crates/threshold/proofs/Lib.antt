@@ -1,11 +1,12 @@
 pub mod Histograms
 pub mod Present
 pub mod Picks
-pub mod Fractions
+pub mod HalfSums
 pub mod Rounds
 pub mod Sequence
 pub mod Demand
 pub mod Outcomes
 pub mod Tables
 pub mod Settling
+pub mod Counted
 pub mod Examples

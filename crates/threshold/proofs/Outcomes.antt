@@ -1,16 +1,17 @@
--- What the two calls may answer and leave: each answer is determined, what a caller reads off the number 0, and that a histogram which was
+-- What the two calls may answer and leave: each answer is determined, what a caller reads off the number, and that a histogram which was
 -- counted is never refused a threshold. Assumes nothing.
 use mathlib.Core.Path.{_≡_, ap}
 use mathlib.Core.List.{List}
 use mathlib.Core.Logic.{inl, inr}
 use Prim.Native.Nat.{ℕ, _<_, _≤_}
 use native.Mathlib.Omega.{arith}
+use lib.Dec.{lit≤}
 use lib.ListN.{length}
 use lib.Seq.{ext-getD}
 use Rattle.numbers.proofs.Refusals.{past, alike, together}
 use Rattle.threshold.specs.declared.Threshold.{Threshold}
 use Rattle.threshold.specs.Histogram.{Countable, Tally, tally, Counted, CountIs}
-use Rattle.threshold.specs.TwoMeans.{answered, Done, TwoMeansIs}
+use Rattle.threshold.specs.TwoMeans.{answered, refused, Done, TwoMeansIs}
 use Rattle.threshold.proofs.Demand.{one-rounds, one-answer}
 
 -- ---- counting
@@ -25,11 +26,21 @@ pub one-tally : (values histogram : List ℕ) (a b : Tally) → CountIs values h
 one-tally values histogram a b =
     together alike (together alike (λ p q i. tally (alike (p .number) (q .number) i) (one-histogram values a b p q i)))
 
+-- a refused call does not answer 0
+count-refused : {n : ℕ} {histogram : List ℕ} {r : Tally} → 1 ≤ n → r ≡ tally n histogram → ¬ (r .number ≡ 0)
+count-refused some is done = let e = ap (λ (t : Tally). t .number) is in omega arith
+
 -- 0 says that the values were counted
 pub when-counted : (values histogram : List ℕ) (r : Tally) → r .number ≡ 0 → CountIs values histogram r → Countable values × Counted values r
-when-counted values histogram r done (inl a) = absurd (let is = ap (λ (t : Tally). t .number) (a .1) in let none : ⊥ = omega arith in none)
-when-counted values histogram r done (inr (places, inl a)) = absurd (let is = ap (λ (t : Tally). t .number) (a .1) in let none : ⊥ = omega arith in none)
+when-counted values histogram r done (inl a) = absurd (count-refused (lit≤ tt) (a .1) done)
+when-counted values histogram r done (inr (places, inl a)) = absurd (count-refused (lit≤ tt) (a .1) done)
 when-counted values histogram r done (inr (places, inr counted)) = counted
+
+-- and any other that nothing was written
+pub when-refused : (values histogram : List ℕ) (r : Tally) → (r .number ≡ 0 → ⊥) → CountIs values histogram r → r .histogram ≡ histogram
+when-refused values histogram r some (inl a) = ap (λ (t : Tally). t .histogram) (a .1)
+when-refused values histogram r some (inr (places, inl a)) = ap (λ (t : Tally). t .histogram) (a .1)
+when-refused values histogram r some (inr (places, inr counted)) = absurd (some (counted .1 .number))
 
 -- ---- the two means
 -- the answer is determined: two thresholds that the promise permits are one
@@ -42,11 +53,15 @@ one-threshold h a b =
     let value = one-answer 128 h (a .rounds) (b .rounds) (a .value) (b .value) (p .settled) (q .settled) in
     λ i. answered (number i) (rounds i) (value i))))
 
+-- a refused call does not answer 0
+threshold-refused : {n : ℕ} {r : Threshold} → 1 ≤ n → r ≡ refused n → ¬ (r .number ≡ 0)
+threshold-refused some is done = let e = ap (λ (t : Threshold). t .number) is in omega arith
+
 -- 0 says that the threshold is settled
 pub when-settled : (h : List ℕ) (r : Threshold) → r .number ≡ 0 → TwoMeansIs h r → (length h ≡ 256) × Done 128 h r
-when-settled h r done (inl a) = absurd (let is = ap (λ (t : Threshold). t .number) (a .1) in let none : ⊥ = omega arith in none)
-when-settled h r done (inr (levels, inl a)) = absurd (let is = ap (λ (t : Threshold). t .number) (a .1) in let none : ⊥ = omega arith in none)
-when-settled h r done (inr (levels, inr (some, inl a))) = absurd (let is = ap (λ (t : Threshold). t .number) (a .1) in let none : ⊥ = omega arith in none)
+when-settled h r done (inl a) = absurd (threshold-refused (lit≤ tt) (a .1) done)
+when-settled h r done (inr (levels, inl a)) = absurd (threshold-refused (lit≤ tt) (a .1) done)
+when-settled h r done (inr (levels, inr (some, inl a))) = absurd (threshold-refused (lit≤ tt) (a .1) done)
 when-settled h r done (inr (levels, inr (some, inr (few, d)))) = (levels, d)
 
 -- in at most 511 rounds

@@ -1,5 +1,5 @@
 -- Laws of sums over the levels that a test picks. Assumes nothing.
-use mathlib.Core.Path.{_≡_, refl}
+use mathlib.Core.Path.{_≡_, refl, sym}
 use mathlib.Core.Bool.{Bool, true, false, cond, not, _&&_, false≢true}
 use mathlib.Core.Logic.{⊎-elim}
 use Prim.Native.Nat.{ℕ, zero, suc, _+_, _*_, _<_, _≤_}
@@ -7,7 +7,7 @@ use native.Mathlib.Nat.{eq-or-lt-of-le}
 use native.Mathlib.Omega.{arith}
 use borrow.Author.Tests.{not-true}
 use Rattle.numbers.specs.Sums.{sum}
-use Rattle.threshold.specs.TwoMeans.{over}
+use Rattle.threshold.specs.TwoMeans.{sumOver}
 
 -- every level that p picks, q picks too
 abbrev pub Sub : (ℕ → Bool) → (ℕ → Bool) → Type 0
@@ -26,10 +26,10 @@ beyond-is p q v = go (q v) (p v)
     go false d e = absurd (false≢true e)
 
 -- what q picks is what p picks and what lies beyond
-pub in-two : (p q : ℕ → Bool) → Sub p q → (n : ℕ) (f : ℕ → ℕ) → over n q f ≡ over n p f + over n (beyond p q) f
-unfolding sum over
-in-two p q s zero f = refl
-in-two p q s (suc n) f = omega (arith, in-two p q s n f, one (q n) (p n) (s n))
+pub over-in-two : (p q : ℕ → Bool) → Sub p q → (n : ℕ) (f : ℕ → ℕ) → sumOver n q f ≡ sumOver n p f + sumOver n (beyond p q) f
+unfolding sum sumOver
+over-in-two p q s zero f = refl
+over-in-two p q s (suc n) f = omega (arith, over-in-two p q s n f, one (q n) (p n) (s n))
   where
     one : (b d : Bool) → (d ≡ true → b ≡ true) → cond b (f n) 0 ≡ cond d (f n) 0 + cond (b && not d) (f n) 0
     one true true i = omega arith
@@ -37,19 +37,18 @@ in-two p q s (suc n) f = omega (arith, in-two p q s n f, one (q n) (p n) (s n))
     one false true i = absurd (false≢true (i refl))
     one false false i = omega arith
 
--- what is picked is at most all
-pub over-part : (n : ℕ) (p : ℕ → Bool) (f : ℕ → ℕ) → over n p f ≤ sum n f
-unfolding sum over
-over-part zero p f = omega arith
-over-part (suc n) p f = omega (arith, over-part n p f, one (p n))
-  where
-    one : (b : Bool) → cond b (f n) 0 ≤ f n
-    one true = omega arith
-    one false = omega arith
+-- what p picks and what it does not pick are all
+pub over-rest : (n : ℕ) (p : ℕ → Bool) (f : ℕ → ℕ) → sumOver n p f + sumOver n (λ v. not (p v)) f ≡ sum n f
+unfolding sumOver
+over-rest n p f = sym (over-in-two p (λ v. true) (λ v e. refl) n f)
+
+-- so what is picked is at most all
+pub over-part : (n : ℕ) (p : ℕ → Bool) (f : ℕ → ℕ) → sumOver n p f ≤ sum n f
+over-part n p f = omega (arith, over-rest n p f)
 
 -- and at least what any picked level has
-pub over-has : (n : ℕ) (p : ℕ → Bool) (f : ℕ → ℕ) (v : ℕ) → v < n → p v ≡ true → f v ≤ over n p f
-unfolding sum over
+pub over-has : (n : ℕ) (p : ℕ → Bool) (f : ℕ → ℕ) (v : ℕ) → v < n → p v ≡ true → f v ≤ sumOver n p f
+unfolding sum sumOver
 over-has zero p f v l t = absurd (omega arith)
 over-has (suc n) p f v l t = ⊎-elim last (λ (e : v < n). omega (arith, over-has n p f v e t)) (eq-or-lt-of-le {n = v} {m = n} (omega arith))
   where
@@ -57,8 +56,8 @@ over-has (suc n) p f v l t = ⊎-elim last (λ (e : v < n). omega (arith, over-h
     last e = rw (← e, t) (omega arith)
 
 -- where f is at most g at each picked level, so are the sums
-pub over-le : (n : ℕ) (p : ℕ → Bool) (f g : ℕ → ℕ) → ((v : ℕ) → p v ≡ true → f v ≤ g v) → over n p f ≤ over n p g
-unfolding sum over
+pub over-le : (n : ℕ) (p : ℕ → Bool) (f g : ℕ → ℕ) → ((v : ℕ) → p v ≡ true → f v ≤ g v) → sumOver n p f ≤ sumOver n p g
+unfolding sum sumOver
 over-le zero p f g le = omega arith
 over-le (suc n) p f g le = omega (arith, over-le n p f g le, one (p n) (le n))
   where
@@ -67,8 +66,8 @@ over-le (suc n) p f g le = omega (arith, over-le n p f g le, one (p n) (le n))
     one false l = omega arith
 
 -- where f comes to 0, so does what is 0 wherever f is
-pub over-zero : (n : ℕ) (p : ℕ → Bool) (f g : ℕ → ℕ) → ((v : ℕ) → f v ≡ 0 → g v ≡ 0) → over n p f ≡ 0 → over n p g ≡ 0
-unfolding sum over
+pub over-zero : (n : ℕ) (p : ℕ → Bool) (f g : ℕ → ℕ) → ((v : ℕ) → f v ≡ 0 → g v ≡ 0) → sumOver n p f ≡ 0 → sumOver n p g ≡ 0
+unfolding sum sumOver
 over-zero zero p f g z e = refl
 over-zero (suc n) p f g z e = omega (arith, over-zero n p f g z (omega arith), one (p n) (omega arith))
   where
@@ -77,20 +76,20 @@ over-zero (suc n) p f g z e = omega (arith, over-zero n p f g z (omega arith), o
     one false e = refl
 
 -- k times each
-pub scale : (n : ℕ) (p : ℕ → Bool) (f : ℕ → ℕ) (k : ℕ) → over n p (λ v. f v * k) ≡ over n p f * k
-unfolding sum over
-scale zero p f k = omega arith
-scale (suc n) p f k = omega (arith, scale n p f k, one (p n))
+pub over-times : (n : ℕ) (p : ℕ → Bool) (f : ℕ → ℕ) (k : ℕ) → sumOver n p (λ v. f v * k) ≡ sumOver n p f * k
+unfolding sum sumOver
+over-times zero p f k = omega arith
+over-times (suc n) p f k = omega (arith, over-times n p f k, one (p n))
   where
     one : (b : Bool) → cond b (f n * k) 0 ≡ cond b (f n) 0 * k
     one true = refl
     one false = omega arith
 
 -- two sums at once
-pub both : (n : ℕ) (p : ℕ → Bool) (f g : ℕ → ℕ) → over n p (λ v. f v + g v) ≡ over n p f + over n p g
-unfolding sum over
-both zero p f g = refl
-both (suc n) p f g = omega (arith, both n p f g, one (p n))
+pub over-add : (n : ℕ) (p : ℕ → Bool) (f g : ℕ → ℕ) → sumOver n p (λ v. f v + g v) ≡ sumOver n p f + sumOver n p g
+unfolding sum sumOver
+over-add zero p f g = refl
+over-add (suc n) p f g = omega (arith, over-add n p f g, one (p n))
   where
     one : (b : Bool) → cond b (f n + g n) 0 ≡ cond b (f n) 0 + cond b (g n) 0
     one true = refl

@@ -10,59 +10,50 @@ use lib.ListN.{length, List·getD-eq-default}
 use borrow.Author.Tests.{eqb-true, eqb-false, ne-eqb, lt-ltb, le-ltb}
 use Rattle.numbers.specs.Greatest.{Greatest, Least}
 use Rattle.numbers.specs.Sums.{sum}
+use Rattle.numbers.proofs.Greatest.{next-least}
+use Rattle.numbers.proofs.Sums.{sum-goes-on}
 use Rattle.threshold.specs.Histogram.{countOf, total}
-use Rattle.threshold.specs.TwoMeans.{lowest, highest, nearest}
+use Rattle.threshold.specs.TwoMeans.{level, lowest, highest, start}
 
 -- a level is present where it was counted
 abbrev pub Present : List ℕ → ℕ → Type 0
 Present h v = 0 < countOf h v
 
 -- the levels of a histogram are those below its length
-pub present-below : (h : List ℕ) (v : ℕ) → Present h v → v < length h
+present-below : (h : List ℕ) (v : ℕ) → Present h v → v < length h
 present-below h v p = lt-of-not-le (λ (past : length h ≤ v). omega (arith, p, List·getD-eq-default h 0 past))
 
--- a level that is present is none that is not
-present-or-not : (h : List ℕ) (q v : ℕ) → Present h q → countOf h v ≡ 0 → ¬ (v ≡ q)
-present-or-not h q v there absent e = omega (arith, there, absent, ap (countOf h) e)
+-- a level that is not counted is another than one that is
+absent-is-another : (h : List ℕ) (q v : ℕ) → Present h q → countOf h v ≡ 0 → ¬ (v ≡ q)
+absent-is-another h q v there absent e = omega (arith, there, absent, ap (countOf h) e)
 
 -- no levels have the total 0
-pub total-none : total [] ≡ 0
+total-none : total [] ≡ 0
 unfolding total sum
 total-none = refl
 
--- a sum from its first number on
-sum-first : (n : ℕ) (f : ℕ → ℕ) → sum (suc n) f ≡ f 0 + sum n (λ i. f (suc i))
-unfolding sum
-sum-first zero f = omega arith
-sum-first (suc n) f = omega (arith, sum-first n f)
-
 -- the total is the first count and the total of the others
-pub total-first : (c : ℕ) (cs : List ℕ) → total (c ∷ cs) ≡ c + total cs
-unfolding total
-total-first c cs = sum-first (length cs) (countOf (c ∷ cs))
+total-first : (c : ℕ) (cs : List ℕ) → total (c ∷ cs) ≡ c + total cs
+unfolding total sum
+total-first c cs =
+    let next : (i : ℕ) → i < length cs → countOf cs i ≡ countOf (c ∷ cs) (1 + i) = λ i h. let e : 1 + i ≡ suc i = omega arith in rw e in
+    let e : 1 + length cs ≡ suc (length cs) = omega arith in
+    omega (arith, rw e at (sum-goes-on 1 (length cs) (countOf (c ∷ cs)) (countOf cs) next))
 
 -- each count is a part of the total
-pub count-in-total : (h : List ℕ) (v : ℕ) → countOf h v ≤ total h
+count-in-total : (h : List ℕ) (v : ℕ) → countOf h v ≤ total h
 count-in-total [] v = zero-le
 count-in-total (c ∷ cs) zero = omega (arith, total-first c cs)
 count-in-total (c ∷ cs) (suc v) = omega (arith, total-first c cs, count-in-total cs v)
 
 -- where a level is present, the total is not 0
-pub present-counts : (h : List ℕ) (v : ℕ) → Present h v → 0 < total h
+present-counts : (h : List ℕ) (v : ℕ) → Present h v → 0 < total h
 present-counts h v p = lt-of-lt-of-le p (count-in-total h v)
-
--- the least level present is one more behind a level that is not
-behind-none : (cs : List ℕ) {q : ℕ} → Least (Present cs) q → Least (Present (0 ∷ cs)) (suc q)
-behind-none cs {q} rest = record { holds = rest .holds; least = later }
-  where
-    later : (k : ℕ) → Present (0 ∷ cs) k → suc q ≤ k
-    later zero p = absurd (let none : ⊥ = omega (arith, p) in none)
-    later (suc k) p = omega (arith, rest .least k p)
 
 -- `lowest` is the least level present
 pub lowest-is : (h : List ℕ) → 0 < total h → Least (Present h) (lowest h)
 lowest-is [] some = absurd (let none : ⊥ = omega (arith, some, total-none) in none)
-lowest-is (zero ∷ cs) some = behind-none cs (lowest-is cs (omega (arith, some, total-first 0 cs)))
+lowest-is (zero ∷ cs) some = next-least (λ p. omega (arith, p)) (lowest-is cs (omega (arith, some, total-first 0 cs)))
 lowest-is (suc c ∷ cs) some = rw (ne-eqb (suc c) 0 (λ e. omega (arith, e))) (record { holds = omega arith; least = λ k p. zero-le })
 
 -- the greatest level present is one more behind any count
@@ -101,24 +92,27 @@ module _ (h : List ℕ) (some : 0 < total h) where
   highest-below = present-below h (highest h) (highest-is h some .holds)
 
   pub lowest-later : (v : ℕ) → v ≤ lowest h → countOf h v ≡ 0 → v + 1 ≤ lowest h
-  lowest-later v so-far absent = omega (arith, present-or-not h (lowest h) v (lowest-is h some .holds) absent)
+  lowest-later v so-far absent = omega (arith, absent-is-another h (lowest h) v (lowest-is h some .holds) absent)
 
   pub lowest-here : (v : ℕ) → v ≤ lowest h → ¬ (countOf h v ≡ 0) → v ≡ lowest h
   lowest-here v so-far there = omega (arith, lowest-is h some .least v (pos-of-ne-zero there))
 
   pub highest-sooner : (v : ℕ) → highest h ≤ v → countOf h v ≡ 0 → highest h + 1 ≤ v
-  highest-sooner v so-far absent = omega (arith, present-or-not h (highest h) v (highest-is h some .holds) absent)
+  highest-sooner v so-far absent = omega (arith, absent-is-another h (highest h) v (highest-is h some .holds) absent)
 
   pub highest-here : (v : ℕ) → highest h ≤ v → ¬ (countOf h v ≡ 0) → v ≡ highest h
   highest-here v so-far there = omega (arith, highest-is h some .most v (pos-of-ne-zero there))
 
 -- the start, from the two ends as they were found
-module _ (m : ℕ) {low high g G : ℕ} (is-low : low ≡ g) (is-high : high ≡ G) where
-  pub nearest-low : m < low → low ≡ nearest m g G
-  nearest-low below = rw (← is-low, lt-ltb m low below)
+module _ (m : ℕ) (h : List ℕ) {low high : ℕ} (is-low : low ≡ lowest h) (is-high : high ≡ highest h) where
+  pub start-low : m < low → level low ≡ start m h
+  unfolding start
+  start-low below = rw (← is-low, lt-ltb m low below)
 
-  pub nearest-high : low ≤ m → high < m → high ≡ nearest m g G
-  nearest-high from above = rw (← is-low, ← is-high, le-ltb m low from, lt-ltb high m above)
+  pub start-high : low ≤ m → high < m → level high ≡ start m h
+  unfolding start
+  start-high from above = rw (← is-low, ← is-high, le-ltb m low from, lt-ltb high m above)
 
-  pub nearest-middle : low ≤ m → m ≤ high → m ≡ nearest m g G
-  nearest-middle from to = rw (← is-low, ← is-high, le-ltb m low from, le-ltb high m to)
+  pub start-middle : low ≤ m → m ≤ high → level m ≡ start m h
+  unfolding start
+  start-middle from to = rw (← is-low, ← is-high, le-ltb m low from, le-ltb high m to)

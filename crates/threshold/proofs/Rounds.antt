@@ -9,15 +9,26 @@ use native.Mathlib.Nat.{mul-le-mul-right, le-of-mul-le-mul-right, eq-of-mul-eq-m
 use native.Mathlib.Omega.{arith}
 use lib.ListN.{length}
 use borrow.Author.Tests.{leb-true, leb-false, le-leb}
-use Rattle.threshold.specs.declared.Fraction.{Fraction}
+use Rattle.numbers.specs.declared.Fraction.{Fraction}
 use Rattle.threshold.specs.Histogram.{countOf}
-use Rattle.threshold.specs.TwoMeans.{fraction, Proper, Same, UpTo, level, low, high, over, weight, lowSum, lowNumber, highSum, highNumber, round}
-use Rattle.threshold.proofs.Picks.{Sub, beyond, beyond-is, in-two, over-le, over-zero, scale, both}
-use Rattle.threshold.proofs.Fractions.{up-to-trans, either-way, middle-grows, low-same, high-same}
+use Rattle.numbers.specs.Fractions.{fraction, Proper, Equal, NotMore}
+use Rattle.numbers.proofs.Fractions.{not-more-trans, either-way}
+use Rattle.threshold.specs.TwoMeans.{level, low, high, sumOver, weight, mean, round}
+use Rattle.threshold.proofs.Picks.{Sub, beyond, beyond-is, over-in-two, over-le, over-zero, over-times, over-add}
+use Rattle.threshold.proofs.HalfSums.{half-sum-grows, low-same, high-same}
 
--- the mean of the levels picked: their sum over their number
-abbrev mean : List ℕ → (ℕ → Bool) → Fraction
-mean h p = fraction (over (length h) p (weight h)) (over (length h) p (countOf h))
+-- A, B, C and E: the sum and the number of the levels up to T, and of those from T on
+abbrev pub lowSum : List ℕ → Fraction → ℕ
+lowSum h T = mean h (low T) .numerator
+
+abbrev pub lowNumber : List ℕ → Fraction → ℕ
+lowNumber h T = mean h (low T) .denominator
+
+abbrev pub highSum : List ℕ → Fraction → ℕ
+highSum h T = mean h (high T) .numerator
+
+abbrev pub highNumber : List ℕ → Fraction → ℕ
+highNumber h T = mean h (high T) .denominator
 
 -- the levels picked all lie below n/d; none of them does
 abbrev Under : (ℕ → Bool) → ℕ → ℕ → Type 0
@@ -33,9 +44,9 @@ module _ (h : List ℕ) (p q : ℕ → Bool) (n d : ℕ) (pos : 0 < d) (below : 
       omega (
         arith,
         over-le (length h) p (λ v. weight h v * d + countOf h v) (λ v. countOf h v * n) (λ v t. omega (arith, mul-le-mul-right (countOf h v) (below v t))),
-        both (length h) p (λ v. weight h v * d) (countOf h),
-        scale (length h) p (weight h) d,
-        scale (length h) p (countOf h) n,
+        over-add (length h) p (λ v. weight h v * d) (countOf h),
+        over-times (length h) p (weight h) d,
+        over-times (length h) p (countOf h) n,
       )
 
   sum-from : mean h q .denominator * n ≤ mean h q .numerator * d
@@ -43,36 +54,36 @@ module _ (h : List ℕ) (p q : ℕ → Bool) (n d : ℕ) (pos : 0 < d) (below : 
       omega (
         arith,
         over-le (length h) q (λ v. countOf h v * n) (λ v. weight h v * d) (λ v t. omega (arith, mul-le-mul-right (countOf h v) (from v t))),
-        scale (length h) q (weight h) d,
-        scale (length h) q (countOf h) n,
+        over-times (length h) q (weight h) d,
+        over-times (length h) q (countOf h) n,
       )
 
   gap : mean h p .numerator * mean h q .denominator * d + mean h p .denominator * mean h q .denominator ≤ mean h q .numerator * mean h p .denominator * d
   gap = omega (arith, mul-le-mul-right (mean h q .denominator) sum-under, mul-le-mul-right (mean h p .denominator) sum-from)
 
-  -- the mean of p is up to that of q
-  apart : UpTo (mean h p) (mean h q)
+  -- the mean of p is not more than that of q
+  apart : NotMore (mean h p) (mean h q)
   apart = le-of-mul-le-mul-right {k = d} (omega (arith, gap)) pos
 
   -- and the same only where there are no such levels q, or none p
-  none-from : Proper (mean h p) → Same (mean h p) (mean h q) → mean h q .denominator ≡ 0
+  none-from : Proper (mean h p) → Equal (mean h p) (mean h q) → mean h q .denominator ≡ 0
   none-from some e = eq-of-mul-eq-mul-right (mean h p .denominator) some (mean h q .denominator) 0 (omega (arith, gap, ap (λ (z : ℕ). z * d) e))
 
-  none-under : Proper (mean h q) → Same (mean h p) (mean h q) → mean h p .denominator ≡ 0
+  none-under : Proper (mean h q) → Equal (mean h p) (mean h q) → mean h p .denominator ≡ 0
   none-under some e = eq-of-mul-eq-mul-right (mean h q .denominator) some (mean h p .denominator) 0 (omega (arith, gap, ap (λ (z : ℕ). z * d) e))
 
--- a level up to T is up to what T is up to, and a level from U on is one from there on
-low-sub : (T U : Fraction) → Proper T → UpTo T U → Sub (low T) (low U)
+-- where T is not more than U, a level up to T is one up to U, and a level from U on is one from T on
+low-sub : (T U : Fraction) → Proper T → NotMore T U → Sub (low T) (low U)
 low-sub T U proper l v t =
     le-leb (v * U .denominator) (U .numerator)
-    (omega (arith, up-to-trans (level v) T U proper (omega (arith, leb-true (v * T .denominator) (T .numerator) t)) l))
+    (omega (arith, not-more-trans (level v) T U proper (omega (arith, leb-true (v * T .denominator) (T .numerator) t)) l))
 
-high-sub : (T U : Fraction) → Proper U → UpTo T U → Sub (high U) (high T)
+high-sub : (T U : Fraction) → Proper U → NotMore T U → Sub (high U) (high T)
 high-sub T U proper l v t =
     le-leb (T .numerator) (v * T .denominator)
-    (omega (arith, up-to-trans T U (level v) proper l (omega (arith, leb-true (U .numerator) (v * U .denominator) t))))
+    (omega (arith, not-more-trans T U (level v) proper l (omega (arith, leb-true (U .numerator) (v * U .denominator) t))))
 
-module _ (h : List ℕ) (T U : Fraction) (pT : Proper T) (pU : Proper U) (l : UpTo T U) where
+module _ (h : List ℕ) (T U : Fraction) (pT : Proper T) (pU : Proper U) (l : NotMore T U) where
   -- the levels up to U that lie above T, and the levels from T on that lie below U
   abbrev above : ℕ → Bool
   above = beyond (low T) (low U)
@@ -81,17 +92,17 @@ module _ (h : List ℕ) (T U : Fraction) (pT : Proper T) (pU : Proper U) (l : Up
   beneath = beyond (high U) (high T)
 
   -- so the levels on either side fall into two parts
-  low-parts : (f : ℕ → ℕ) → over (length h) (low U) f ≡ over (length h) (low T) f + over (length h) above f
-  low-parts = in-two (low T) (low U) (low-sub T U pT l) (length h)
+  low-parts : (f : ℕ → ℕ) → sumOver (length h) (low U) f ≡ sumOver (length h) (low T) f + sumOver (length h) above f
+  low-parts = over-in-two (low T) (low U) (low-sub T U pT l) (length h)
 
-  high-parts : (f : ℕ → ℕ) → over (length h) (high T) f ≡ over (length h) (high U) f + over (length h) beneath f
-  high-parts = in-two (high U) (high T) (high-sub T U pU l) (length h)
+  high-parts : (f : ℕ → ℕ) → sumOver (length h) (high T) f ≡ sumOver (length h) (high U) f + sumOver (length h) beneath f
+  high-parts = over-in-two (high U) (high T) (high-sub T U pU l) (length h)
 
   -- the larger the threshold, the more levels are up to it, and the fewer from it on
-  pub low-more : (f : ℕ → ℕ) → over (length h) (low T) f ≤ over (length h) (low U) f
+  pub low-more : (f : ℕ → ℕ) → sumOver (length h) (low T) f ≤ sumOver (length h) (low U) f
   low-more f = omega (arith, low-parts f)
 
-  pub high-fewer : (f : ℕ → ℕ) → over (length h) (high U) f ≤ over (length h) (high T) f
+  pub high-fewer : (f : ℕ → ℕ) → sumOver (length h) (high U) f ≤ sumOver (length h) (high T) f
   high-fewer f = omega (arith, high-parts f)
 
   -- where the parts lie
@@ -108,30 +119,30 @@ module _ (h : List ℕ) (T U : Fraction) (pT : Proper T) (pU : Proper U) (l : Up
   high-from v = leb-true (U .numerator) (v * U .denominator)
 
   -- both means grow with the threshold
-  low-grows : UpTo (mean h (low T)) (mean h (low U))
+  low-grows : NotMore (mean h (low T)) (mean h (low U))
   low-grows =
       rw (low-parts (weight h), low-parts (countOf h))
       (omega (arith, apart h (low T) above (suc (T .numerator)) (T .denominator) pT low-under above-from))
 
-  high-grows : UpTo (mean h (high T)) (mean h (high U))
+  high-grows : NotMore (mean h (high T)) (mean h (high U))
   high-grows =
       rw (high-parts (weight h), high-parts (countOf h))
       (omega (arith, apart h beneath (high U) (U .numerator) (U .denominator) pU beneath-under high-from))
 
   -- a round keeps the order
-  pub round-keeps-order : UpTo (round h T) (round h U)
+  pub round-keeps-order : NotMore (round h T) (round h U)
   unfolding round
-  round-keeps-order = middle-grows (mean h (low T)) (mean h (high T)) (mean h (low U)) (mean h (high U)) low-grows high-grows
+  round-keeps-order = half-sum-grows (mean h (low T)) (mean h (high T)) (mean h (low U)) (mean h (high U)) low-grows high-grows
 
   -- Where as many levels are up to T as up to U, and as many from T on as from U on, a round gives the same pair; f may count
   -- levels in any way that leaves out none that is present.
   pub same-split : (f : ℕ → ℕ) → ((v : ℕ) → f v ≡ 0 → countOf h v ≡ 0)
-      → over (length h) (low T) f ≡ over (length h) (low U) f → over (length h) (high T) f ≡ over (length h) (high U) f
+      → sumOver (length h) (low T) f ≡ sumOver (length h) (low U) f → sumOver (length h) (high T) f ≡ sumOver (length h) (high U) f
       → round h T ≡ round h U
   unfolding round
   same-split f z a b =
-      let none-above : over (length h) above f ≡ 0 = omega (arith, low-parts f) in
-      let none-beneath : over (length h) beneath f ≡ 0 = omega (arith, high-parts f) in
+      let none-above : sumOver (length h) above f ≡ 0 = omega (arith, low-parts f) in
+      let none-beneath : sumOver (length h) beneath f ≡ 0 = omega (arith, high-parts f) in
       let weightless : (v : ℕ) → f v ≡ 0 → weight h v ≡ 0 = λ v e. rw (z v e) (omega arith) in
       let A : lowSum h T ≡ lowSum h U = omega (arith, low-parts (weight h), over-zero (length h) above f (weight h) weightless none-above) in
       let B : lowNumber h T ≡ lowNumber h U = omega (arith, low-parts (countOf h), over-zero (length h) above f (countOf h) z none-above) in
@@ -140,18 +151,18 @@ module _ (h : List ℕ) (T U : Fraction) (pT : Proper T) (pU : Proper U) (l : Up
       λ i. fraction (A i * E i + C i * B i) (2 * B i * E i)
 
   -- where the means are the same, so are the numbers of levels
-  low-number : 0 < lowNumber h T → Same (mean h (low T)) (mean h (low U)) → lowNumber h T ≡ lowNumber h U
+  low-number : 0 < lowNumber h T → Equal (mean h (low T)) (mean h (low U)) → lowNumber h T ≡ lowNumber h U
   low-number some e =
-      let same : Same (mean h (low T)) (mean h above) = omega (arith, rw (low-parts (weight h), low-parts (countOf h)) at e) in
+      let same : Equal (mean h (low T)) (mean h above) = omega (arith, rw (low-parts (weight h), low-parts (countOf h)) at e) in
       omega (arith, low-parts (countOf h), none-from h (low T) above (suc (T .numerator)) (T .denominator) pT low-under above-from some same)
 
-  high-number : 0 < highNumber h U → Same (mean h (high T)) (mean h (high U)) → highNumber h T ≡ highNumber h U
+  high-number : 0 < highNumber h U → Equal (mean h (high T)) (mean h (high U)) → highNumber h T ≡ highNumber h U
   high-number some e =
-      let same : Same (mean h beneath) (mean h (high U)) = omega (arith, rw (high-parts (weight h), high-parts (countOf h)) at e) in
+      let same : Equal (mean h beneath) (mean h (high U)) = omega (arith, rw (high-parts (weight h), high-parts (countOf h)) at e) in
       omega (arith, high-parts (countOf h), none-under h beneath (high U) (U .numerator) (U .denominator) pU beneath-under high-from some same)
 
   -- a round gives equal thresholds as equal pairs: in order
-  pair : 0 < lowNumber h T → 0 < highNumber h T → 0 < lowNumber h U → 0 < highNumber h U → Same (round h T) (round h U) → round h T ≡ round h U
+  pair : 0 < lowNumber h T → 0 < highNumber h T → 0 < lowNumber h U → 0 < highNumber h U → Equal (round h T) (round h U) → round h T ≡ round h U
   unfolding round
   pair b e b' e' s =
       same-split (countOf h) (λ v z. z)
@@ -161,15 +172,15 @@ module _ (h : List ℕ) (T U : Fraction) (pT : Proper T) (pU : Proper U) (l : Up
 -- and whichever of the two is larger
 pub same-pair : (h : List ℕ) (T U : Fraction) → Proper T → Proper U
     → 0 < lowNumber h T → 0 < highNumber h T → 0 < lowNumber h U → 0 < highNumber h U
-    → Same (round h T) (round h U) → round h T ≡ round h U
+    → Equal (round h T) (round h U) → round h T ≡ round h U
 same-pair h T U pT pU b e b' e' s =
     ⊎-elim (λ l. pair h T U pT pU l b e b' e' s) (λ l. sym (pair h U T pU pT l b' e' b e (sym s))) (either-way T U)
 
 -- equal thresholds have the same round, whatever their pairs
-pub same-threshold : (h : List ℕ) (T U : Fraction) → Proper T → Proper U → Same T U → round h T ≡ round h U
+pub same-threshold : (h : List ℕ) (T U : Fraction) → Proper T → Proper U → Equal T U → round h T ≡ round h U
 same-threshold h T U pT pU s =
-    let up : UpTo T U = le-of-eq s in
-    let down : UpTo U T = le-of-eq (sym s) in
+    let up : NotMore T U = le-of-eq s in
+    let down : NotMore U T = le-of-eq (sym s) in
     same-split h T U pT pU up (countOf h) (λ v z. z)
     (le-antisymm (low-more h T U pT pU up (countOf h)) (low-more h U T pU pT down (countOf h)))
     (le-antisymm (high-fewer h U T pU pT down (countOf h)) (high-fewer h T U pT pU up (countOf h)))

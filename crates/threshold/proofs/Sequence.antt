@@ -3,7 +3,7 @@
 use mathlib.Core.Path.{_≡_, refl, sym, subst}
 use mathlib.Core.Bool.{Bool, true, false, cond}
 use mathlib.Core.List.{List}
-use mathlib.Core.Logic.{_⊎_, inl, inr, ⊎-elim}
+use mathlib.Core.Logic.{_⊎_, inl, inr, ⊎-elim, Dec·and}
 use Prim.Native.Nat.{ℕ, zero, suc, _+_, _-_, _*_, _<_, _≤_}
 use native.Mathlib.Nat.{mul-le-mul-right, mul-pos, eq-or-lt-of-le, le-of-eq, lt-of-lt-of-le}
 use native.Mathlib.Decide.{decLe, ℕ-discrete}
@@ -12,16 +12,15 @@ use lib.Dec.{ltb}
 use lib.ListN.{length}
 use borrow.Author.Tests.{le-leb, ltb-false}
 use Rattle.numbers.proofs.Sums.{sum-most}
-use Rattle.numbers.proofs.Computed.{both}
-use Rattle.threshold.specs.declared.Fraction.{Fraction}
+use Rattle.numbers.specs.declared.Fraction.{Fraction}
 use Rattle.threshold.specs.Histogram.{countOf, total}
-use Rattle.threshold.specs.TwoMeans.{Proper, Same, UpTo, level, lowest, highest, nearest, start, low, high, over, weight, lowNumber, highNumber}
+use Rattle.numbers.specs.Fractions.{Proper, Equal, NotMore}
+use Rattle.numbers.proofs.Fractions.{not-more-trans, either-way}
+use Rattle.threshold.specs.TwoMeans.{level, lowest, highest, nearest, start, low, high, sumOver, weight, round, Within, Rests, threshold}
 use Rattle.threshold.specs.TwoMeans.{round, Rests, threshold}
-use Rattle.threshold.specs.Asked.{Within}
 use Rattle.threshold.proofs.Present.{lowest-is, highest-is, lowest-below, highest-below}
-use Rattle.threshold.proofs.Picks.{over-part, over-has, over-le, scale}
-use Rattle.threshold.proofs.Fractions.{up-to-trans, either-way}
-use Rattle.threshold.proofs.Rounds.{round-keeps-order, low-more, high-fewer, same-split}
+use Rattle.threshold.proofs.Picks.{over-part, over-has, over-le, over-times}
+use Rattle.threshold.proofs.Rounds.{lowNumber, highNumber, round-keeps-order, low-more, high-fewer, same-split}
 
 -- numbers above 0 that never rise, the first of them at most b, stand still within b steps
 falling-still : (b : ℕ) (f : ℕ → ℕ) → ((k : ℕ) → f (suc k) ≤ f k) → ((k : ℕ) → 0 < f k) → f 0 ≤ b
@@ -44,13 +43,21 @@ stands-still b f in-it (inl rises) =
     (r .0, r .1, omega (arith, r .2, in-it (r .0) .1, in-it (suc (r .0)) .1))
 stands-still b f in-it (inr falls) = falling-still b f falls (λ k. in-it k .0) (in-it 0 .1)
 
--- at rest or not
+-- within the levels present or not, at rest or not
+unfoldable pub within-or-not : (h : List ℕ) (T : Fraction) → Dec (Within h T)
+within-or-not h T =
+    let test : Dec (Proper T × (NotMore (level (lowest h)) T × NotMore T (level (highest h)))) = Dec·and (decLe _ _) (Dec·and (decLe _ _) (decLe _ _)) in
+    elim test [
+      | yes p ↦ yes (record { proper = p .0; from-lowest = p .1 .0; to-highest = p .1 .1 })
+      | no f ↦ no (λ w. f (w .proper, (w .from-lowest, w .to-highest)))
+    ]
+
 unfoldable pub rests-or-not : (h : List ℕ) (T : Fraction) → Dec (Rests h T)
 rests-or-not h T =
-    let test : Dec (UpTo (level (lowest h)) T × (UpTo T (level (highest h)) × Same (round h T) T)) = both (decLe _ _) (both (decLe _ _) (ℕ-discrete _ _)) in
+    let test : Dec (Within h T × Equal (round h T) T) = Dec·and (within-or-not h T) (ℕ-discrete _ _) in
     elim test [
-      | yes p ↦ yes (record { from-lowest = p .0; to-highest = p .1 .0; still = p .1 .1 })
-      | no f ↦ no (λ r. f (r .from-lowest, (r .to-highest, r .still)))
+      | yes p ↦ yes (record { within = p .0; still = p .1 })
+      | no f ↦ no (λ r. f (r .within, r .still))
     ]
 
 -- each level once, present or not
@@ -59,20 +66,20 @@ one v = 1
 
 -- where a threshold stands, in halves of a level: how many levels are up to it, and how many are not from it on
 unfoldable place : List ℕ → Fraction → ℕ
-place h T = over (length h) (low T) one + (length h - over (length h) (high T) one)
+place h T = sumOver (length h) (low T) one + (length h - sumOver (length h) (high T) one)
 
 -- of n levels at most n are picked
-at-most-all : (n : ℕ) (p : ℕ → Bool) → over n p one ≤ n
+at-most-all : (n : ℕ) (p : ℕ → Bool) → sumOver n p one ≤ n
 at-most-all n p = omega (arith, over-part n p one, sum-most 1 n one (λ v. omega arith))
 
 module _ (h : List ℕ) (T U : Fraction) (pT : Proper T) (pU : Proper U) where
   -- the larger the threshold, the later its place
-  place-grows : UpTo T U → place h T ≤ place h U
+  place-grows : NotMore T U → place h T ≤ place h U
   unfolding place
   place-grows l = omega (arith, low-more h T U pT pU l one, high-fewer h T U pT pU l one)
 
   -- in one place a round gives one pair: in order
-  same-below : UpTo T U → place h T ≡ place h U → round h T ≡ round h U
+  same-below : NotMore T U → place h T ≡ place h U → round h T ≡ round h U
   unfolding place
   same-below l e =
       let x = low-more h T U pT pU l one in
@@ -101,32 +108,32 @@ where-some (suc c) x y l = mul-le-mul-right (suc c) (l (omega arith))
 
 module _ (h : List ℕ) (some : 0 < total h) where
   -- what is picked sums up to at least the lowest level each, and at most the highest
-  lowest-each : (p : ℕ → Bool) → over (length h) p (countOf h) * lowest h ≤ over (length h) p (weight h)
+  lowest-each : (p : ℕ → Bool) → sumOver (length h) p (countOf h) * lowest h ≤ sumOver (length h) p (weight h)
   lowest-each p =
       omega (
         arith,
         over-le (length h) p (λ v. countOf h v * lowest h) (weight h)
             (λ v t. omega (arith, where-some (countOf h v) (lowest h) v (lowest-is h some .least v))),
-        scale (length h) p (countOf h) (lowest h),
+        over-times (length h) p (countOf h) (lowest h),
       )
 
-  highest-each : (p : ℕ → Bool) → over (length h) p (weight h) ≤ over (length h) p (countOf h) * highest h
+  highest-each : (p : ℕ → Bool) → sumOver (length h) p (weight h) ≤ sumOver (length h) p (countOf h) * highest h
   highest-each p =
       omega (
         arith,
         over-le (length h) p (weight h) (λ v. countOf h v * highest h)
             (λ v t. omega (arith, where-some (countOf h v) v (highest h) (highest-is h some .most v))),
-        scale (length h) p (countOf h) (highest h),
+        over-times (length h) p (countOf h) (highest h),
       )
 
   -- the lowest level is up to T, and the highest from T on
   module _ (T : Fraction) (w : Within h T) where
-    low-has : (f : ℕ → ℕ) → f (lowest h) ≤ over (length h) (low T) f
+    low-has : (f : ℕ → ℕ) → f (lowest h) ≤ sumOver (length h) (low T) f
     low-has f =
         over-has (length h) (low T) f (lowest h) (lowest-below h some)
         (le-leb (lowest h * T .denominator) (T .numerator) (omega (arith, w .from-lowest)))
 
-    high-has : (f : ℕ → ℕ) → f (highest h) ≤ over (length h) (high T) f
+    high-has : (f : ℕ → ℕ) → f (highest h) ≤ sumOver (length h) (high T) f
     high-has f =
         over-has (length h) (high T) f (highest h) (highest-below h some)
         (le-leb (T .numerator) (highest h * T .denominator) (omega (arith, w .to-highest)))
@@ -178,26 +185,28 @@ module _ (h : List ℕ) (some : 0 < total h) where
   -- thresholds S of which each is what a round makes of the one before
   record Follows (S : ℕ → Fraction) : Type 0 where
     within : (k : ℕ) → Within h (S k)
-    next : (k : ℕ) → Same (round h (S k)) (S (suc k))
+    next : (k : ℕ) → Equal (round h (S k)) (S (suc k))
 
   -- two such keep the order in which they begin
-  in-order : (S R : ℕ → Fraction) → Follows S → Follows R → UpTo (S 0) (R 0) → (k : ℕ) → UpTo (S k) (R k)
+  in-order : (S R : ℕ → Fraction) → Follows S → Follows R → NotMore (S 0) (R 0) → (k : ℕ) → NotMore (S k) (R k)
   in-order S R s r l zero = l
   in-order S R s r l (suc k) =
-      up-to-trans (S (suc k)) (round h (S k)) (R (suc k)) (round-within (S k) (s .within k) .proper) (le-of-eq (sym (s .next k)))
-      (up-to-trans (round h (S k)) (round h (R k)) (R (suc k)) (round-within (R k) (r .within k) .proper)
+      not-more-trans (S (suc k)) (round h (S k)) (R (suc k)) (round-within (S k) (s .within k) .proper) (le-of-eq (sym (s .next k)))
+      (not-more-trans (round h (S k)) (round h (R k)) (R (suc k)) (round-within (R k) (r .within k) .proper)
       (round-keeps-order h (S k) (R k) (s .within k .proper) (r .within k .proper) (in-order S R s r l k))
       (le-of-eq (r .next k)))
 
   -- what rests follows itself
-  rests-within : (R : Fraction) → Proper R → Rests h R → Within h R
-  rests-within R proper r = record { proper = proper; from-lowest = r .from-lowest; to-highest = r .to-highest }
-
-  resting : (R : Fraction) → Proper R → Rests h R → Follows (λ k. R)
-  resting R proper r = record { within = λ k. rests-within R proper r; next = λ k. r .still }
+  resting : (R : Fraction) → Rests h R → Follows (λ k. R)
+  resting R r = record { within = λ k. r .within; next = λ k. r .still }
 
   module _ (m : ℕ) where
-    -- the thresholds, and the thresholds from the second on
+    -- a threshold of the sequence rests where a round gives it back
+    pub given-back : (k : ℕ) → Equal (threshold m h (suc k)) (threshold m h k) → Rests h (threshold m h k)
+    unfolding threshold
+    given-back k e = record { within = threshold-within m k; still = e }
+
+    -- the thresholds, and the thresholds after the start
     thresholds : Follows (threshold m h)
     unfolding threshold
     thresholds = record { within = threshold-within m; next = λ k. refl }
@@ -206,16 +215,16 @@ module _ (h : List ℕ) (some : 0 < total h) where
     later = record { within = λ k. thresholds .within (suc k); next = λ k. thresholds .next (suc k) }
 
     -- what rests above the start stays above all thresholds, and what rests below it stays below
-    pub stays-above : (R : Fraction) → Proper R → Rests h R → UpTo (start m h) R → (k : ℕ) → UpTo (threshold m h k) R
+    pub stays-above : (R : Fraction) → Rests h R → NotMore (start m h) R → (k : ℕ) → NotMore (threshold m h k) R
     unfolding threshold
-    stays-above R proper r = in-order (threshold m h) (λ k. R) thresholds (resting R proper r)
+    stays-above R r = in-order (threshold m h) (λ k. R) thresholds (resting R r)
 
-    pub stays-below : (R : Fraction) → Proper R → Rests h R → UpTo R (start m h) → (k : ℕ) → UpTo R (threshold m h k)
+    pub stays-below : (R : Fraction) → Rests h R → NotMore R (start m h) → (k : ℕ) → NotMore R (threshold m h k)
     unfolding threshold
-    stays-below R proper r = in-order (λ k. R) (threshold m h) (resting R proper r) thresholds
+    stays-below R r = in-order (λ k. R) (threshold m h) (resting R r) thresholds
 
     -- the sequence goes one way
-    pub one-way : ((k : ℕ) → UpTo (threshold m h k) (threshold m h (suc k))) ⊎ ((k : ℕ) → UpTo (threshold m h (suc k)) (threshold m h k))
+    pub one-way : ((k : ℕ) → NotMore (threshold m h k) (threshold m h (suc k))) ⊎ ((k : ℕ) → NotMore (threshold m h (suc k)) (threshold m h k))
     one-way =
         ⊎-elim
         (λ l. inl (in-order (threshold m h) (λ k. threshold m h (suc k)) thresholds later l))
@@ -229,11 +238,7 @@ module _ (h : List ℕ) (some : 0 < total h) where
         let T : Fraction = threshold m h k in
         let U : Fraction = threshold m h (suc k) in
         let w : Within h U = threshold-within m (suc k) in
-        record {
-          from-lowest = w .from-lowest;
-          to-highest = w .to-highest;
-          still = subst (λ (R : Fraction). Same R U) (same-place h T U (threshold-within m k .proper) (w .proper) (sym e)) refl;
-        }
+        given-back (suc k) (subst (λ (R : Fraction). Equal R U) (same-place h T U (threshold-within m k .proper) (w .proper) (sym e)) refl)
 
     -- the places go one way too
     places-one-way : ((k : ℕ) → place h (threshold m h k) ≤ place h (threshold m h (suc k)))
@@ -241,7 +246,7 @@ module _ (h : List ℕ) (some : 0 < total h) where
     places-one-way =
         ⊎-elim (λ up. inl (λ k. grows k (suc k) (up k))) (λ down. inr (λ k. grows (suc k) k (down k))) one-way
       where
-        grows : (j k : ℕ) → UpTo (threshold m h j) (threshold m h k) → place h (threshold m h j) ≤ place h (threshold m h k)
+        grows : (j k : ℕ) → NotMore (threshold m h j) (threshold m h k) → place h (threshold m h j) ≤ place h (threshold m h k)
         grows j k = place-grows h (threshold m h j) (threshold m h k) (threshold-within m j .proper) (threshold-within m k .proper)
 
     -- so the sequence comes to rest, after at most 2·n − 1 rounds

@@ -1,24 +1,26 @@
 -- The two tables of a histogram, which have for each level how many values lie below it and the sum of their levels: how they are
 -- filled, and that what a round needs can be read from them. Assumes nothing.
-use mathlib.Core.Path.{_≡_, refl, sym, _∙_}
+use mathlib.Core.Path.{_≡_, sym, _∙_}
 use mathlib.Core.Bool.{Bool, true, false, cond, not}
 use mathlib.Core.List.{List}
-use mathlib.Core.Logic.{⊎-elim}
 use Prim.Native.Nat.{ℕ, zero, suc, _+_, _-_, _*_, _/_, _<_, _≤_}
-use native.Mathlib.Nat.{le-refl, le-trans, le-of-lt, ne-of-lt, eq-or-lt-of-le, not-suc-le-zero}
+use native.Mathlib.Nat.{le-refl, le-trans, le-of-lt}
 use native.Mathlib.Nat.{suc-mul, mul-add, mul-le-mul, mul-le-mul-right, div-mul-le-self, le-div-iff-mul-le, div-lt-iff-lt-mul}
 use native.Mathlib.Omega.{arith}
-use lib.ListN.{length, getD, set, length-set}
-use lib.Seq.{getD-set-same, getD-set-other}
+use lib.ListN.{length, getD, set}
 use borrow.Author.Tests.{le-leb, lt-leb}
 use Rattle.numbers.specs.Lists.{AtMost}
 use Rattle.numbers.specs.Sums.{sum}
-use Rattle.numbers.proofs.Sums.{sum-none, sum-more, sum-most, sum-same, sum-parts}
-use Rattle.threshold.specs.declared.Fraction.{Fraction}
+use Rattle.numbers.proofs.Lists.{Written, written-none, written-more}
+use Rattle.numbers.proofs.Sums.{sum-none, sum-more, sum-most, sum-same, sum-part}
+use Rattle.numbers.specs.declared.Fraction.{Fraction}
 use Rattle.threshold.specs.Histogram.{countOf, total}
-use Rattle.threshold.specs.TwoMeans.{fraction, Proper, highest, low, high, over, weight, lowSum, lowNumber, highSum, highNumber, round}
-use Rattle.threshold.specs.Asked.{Filled, Below, Few, Within}
+use Rattle.numbers.specs.Fractions.{fraction, Proper}
+use Rattle.threshold.specs.TwoMeans.{highest, low, high, sumOver, weight, round, Within}
+use Rattle.threshold.specs.Asked.{Filled, Tables, Small}
 use Rattle.threshold.proofs.Present.{highest-below}
+use Rattle.threshold.proofs.Picks.{over-rest, over-part}
+use Rattle.threshold.proofs.Rounds.{lowSum, lowNumber, highSum, highNumber}
 
 -- each of n levels is below n: so is their mean
 sum-of-levels : (n : ℕ) (f : ℕ → ℕ) → sum n (λ v. v * f v) ≤ n * sum n f
@@ -27,13 +29,6 @@ sum-of-levels zero f = omega arith
 sum-of-levels (suc n) f = omega (arith, sum-of-levels n f, suc-mul n (sum n f + f n), mul-add n (sum n f) (f n))
 
 -- ---- filling
--- a table that is right below place n is right up to it once n's number is stored there
-stored : (l : List ℕ) (f : ℕ → ℕ) (n : ℕ) {x : ℕ} → n < length l → ((v : ℕ) → v < n → getD l v 0 ≡ f v) → x ≡ f n → (v : ℕ) → v ≤ n → getD (set l n x) v 0 ≡ f v
-stored l f n {x} room right is v h = ⊎-elim
-    (λ (e : v ≡ n). rw e (getD-set-same l n x 0 room ∙ is))
-    (λ (b : v < n). getD-set-other l n v x 0 (ne-of-lt b) ∙ right v b)
-    (eq-or-lt-of-le h)
-
 -- the tables are right up to level v, and its two numbers are at hand
 pub record Filling (h : List ℕ) (v : ℕ) (numbers sums : List ℕ) (number added : ℕ) : Type 0 where
   pub filled : Filled h v numbers sums
@@ -47,6 +42,28 @@ numberBelow h v = sum v (countOf h)
 abbrev sumBelow : List ℕ → ℕ → ℕ
 sumBelow h v = sum v (weight h)
 
+-- the places of a table up to v are written
+abbrev Table : (ℕ → ℕ) → List ℕ → List ℕ → ℕ → Type 0
+Table f h table v = Written f (length h + 1) table (v + 1)
+
+-- where those of both are, the two are right up to level v
+right-up-to : {h numbers sums : List ℕ} {v : ℕ} → Table (numberBelow h) h numbers v → Table (sumBelow h) h sums v → Filled h v numbers sums
+right-up-to n s =
+    record {
+      counted-long = n .places;
+      summed-long = s .places;
+      counted-is = λ k b. n .are k (omega arith);
+      summed-is = λ k b. s .are k (omega arith);
+    }
+
+-- and where the two are right, those of both are written
+module _ {h numbers sums : List ℕ} {v : ℕ} (f : Filled h v numbers sums) where
+  numbers-written : Table (numberBelow h) h numbers v
+  numbers-written = record { places = f .counted-long; are = λ k b. f .counted-is k (omega arith) }
+
+  sums-written : Table (sumBelow h) h sums v
+  sums-written = record { places = f .summed-long; are = λ k b. f .summed-is k (omega arith) }
+
 -- nothing lies below level 0
 pub filling-none : (h numbers sums : List ℕ) → length numbers ≡ length h + 1 → length sums ≡ length h + 1 → Filling h 0 (set numbers 0 0) (set sums 0 0) 0 0
 filling-none h numbers sums long-numbers long-sums =
@@ -54,12 +71,9 @@ filling-none h numbers sums long-numbers long-sums =
     let added-is : 0 ≡ sumBelow h 0 = sym (sum-none (weight h)) in
     record {
       filled =
-          record {
-            numbers-long = length-set numbers 0 0 ∙ long-numbers;
-            sums-long = length-set sums 0 0 ∙ long-sums;
-            numbers-are = stored numbers (numberBelow h) 0 (omega arith) (λ k b. absurd (not-suc-le-zero b)) number-is;
-            sums-are = stored sums (sumBelow h) 0 (omega arith) (λ k b. absurd (not-suc-le-zero b)) added-is;
-          };
+          right-up-to
+          (written-more (numberBelow h) numbers 0 0 (omega arith) number-is (written-none (numberBelow h) numbers long-numbers))
+          (written-more (sumBelow h) sums 0 0 (omega arith) added-is (written-none (sumBelow h) sums long-sums));
       number-is = number-is;
       added-is = added-is;
     }
@@ -71,21 +85,17 @@ module _ {h numbers sums : List ℕ} {v number added : ℕ} (so-far : Filling h 
   filling-more turn =
       let number-is : number + countOf h v ≡ numberBelow h (v + 1) = omega (arith, so-far .number-is, sum-more v (countOf h)) in
       let added-is : added + weight h v ≡ sumBelow h (v + 1) = omega (arith, so-far .added-is, sum-more v (weight h)) in
-      let f = so-far .filled in
       record {
         filled =
-            record {
-              numbers-long = length-set numbers (v + 1) _ ∙ f .numbers-long;
-              sums-long = length-set sums (v + 1) _ ∙ f .sums-long;
-              numbers-are = stored numbers (numberBelow h) (v + 1) (omega arith) (λ k b. f .numbers-are k (omega arith)) number-is;
-              sums-are = stored sums (sumBelow h) (v + 1) (omega arith) (λ k b. f .sums-are k (omega arith)) added-is;
-            };
+            right-up-to
+            (written-more (numberBelow h) numbers (v + 1) _ (omega arith) number-is (numbers-written (so-far .filled)))
+            (written-more (sumBelow h) sums (v + 1) _ (omega arith) added-is (sums-written (so-far .filled)));
         number-is = number-is;
         added-is = added-is;
       }
 
   -- no level is left
-  pub filling-all : v ≤ length h → length h ≤ v → Below h numbers sums
+  pub filling-all : v ≤ length h → length h ≤ v → Tables h numbers sums
   filling-all up-to past = let e : v ≡ length h = omega arith in rw e at (so-far .filled)
 
   -- with counts of 32 bits at 2,048 levels, what is stored fits 64 bits
@@ -109,24 +119,14 @@ pub record Cut (p : ℕ → Bool) (k : ℕ) : Type 0 where
 
 module _ {p : ℕ → Bool} {k : ℕ} (cut : Cut p k) (f : ℕ → ℕ) where
   -- d levels more, which it does not pick
-  cut-then : (d : ℕ) → over (k + d) p f ≡ sum k f
-  unfolding sum over
+  cut-then : (d : ℕ) → sumOver (k + d) p f ≡ sum k f
+  unfolding sum sumOver
   cut-then zero = let e : k + 0 ≡ k = omega arith in rw e (sum-same k (λ v. cond (p v) (f v) 0) f (λ v b. rw (cut .below v b)))
   cut-then (suc d) = let e : k + suc d ≡ suc (k + d) = omega arith in rw (e, cut .past (k + d) (omega arith)) (omega (arith, cut-then d))
 
   -- it sums up what lies below k
-  cut-sum : {n : ℕ} → k ≤ n → over n p f ≡ sum k f
+  cut-sum : {n : ℕ} → k ≤ n → sumOver n p f ≡ sum k f
   cut-sum {n} in-it = let e : n ≡ k + (n - k) = omega arith in rw e (cut-then (n - k))
-
--- what a test picks and what it does not pick are all
-over-rest : (n : ℕ) (p : ℕ → Bool) (f : ℕ → ℕ) → over n p f + over n (λ v. not (p v)) f ≡ sum n f
-unfolding sum over
-over-rest zero p f = refl
-over-rest (suc n) p f = omega (arith, over-rest n p f, one (p n))
-  where
-    one : (b : Bool) → cond b (f n) 0 + cond (not b) (f n) 0 ≡ f n
-    one true = omega arith
-    one false = omega arith
 
 -- T's whole part
 abbrev pub whole : Fraction → ℕ
@@ -190,10 +190,10 @@ module _ (h : List ℕ) (T : Fraction) (some : 0 < total h) (within : Within h T
 
 -- what is read there, from either table
 module _ (f : ℕ → ℕ) (h table : List ℕ) (right : (v : ℕ) → v ≤ length h → getD table v 0 ≡ sum v f) {T : Fraction} {from : ℕ} (at : Places h T from) where
-  low-read : getD table (whole T + 1) 0 ≡ over (length h) (low T) f
+  low-read : getD table (whole T + 1) 0 ≡ sumOver (length h) (low T) f
   low-read = right (whole T + 1) (at .up-to-in) ∙ sym (cut-sum (at .up-to-is) f (at .up-to-in))
 
-  high-read : getD table from 0 + over (length h) (high T) f ≡ getD table (length h) 0
+  high-read : getD table from 0 + sumOver (length h) (high T) f ≡ getD table (length h) 0
   high-read =
       omega (
         arith,
@@ -204,16 +204,12 @@ module _ (f : ℕ → ℕ) (h table : List ℕ) (right : (v : ℕ) → v ≤ len
       )
 
 -- past the last level the first table has the total
-pub total-read : {h numbers sums : List ℕ} {n : ℕ} → length h ≡ n → Below h numbers sums → getD numbers n 0 ≡ total h
+pub total-read : {h numbers sums : List ℕ} {n : ℕ} → length h ≡ n → Tables h numbers sums → getD numbers n 0 ≡ total h
 unfolding total
-total-read {h} levels tables = rw (← levels) (tables .numbers-are (length h) (le-refl (length h)))
-
--- a part of a sum is at most all of it
-sum-part : (f : ℕ → ℕ) {k n : ℕ} → k ≤ n → sum k f ≤ sum n f
-sum-part f {k} {n} in-it = let e : n ≡ k + (n - k) = omega arith in rw e (omega (arith, sum-parts k (n - k) f))
+total-read {h} levels tables = rw (← levels) (tables .counted-is (length h) (le-refl (length h)))
 
 -- with at most 2,048 levels and a total of at most 1,048,576, what is read is small
-module _ {h : List ℕ} (few : Few h) {k : ℕ} (in-it : k ≤ length h) where
+module _ {h : List ℕ} (few : Small h) {k : ℕ} (in-it : k ≤ length h) where
   number-small : sum k (countOf h) ≤ 1048576
   unfolding total
   number-small = le-trans (sum-part (countOf h) in-it) (few .values)
@@ -241,28 +237,28 @@ ReadFrom h numbers sums T from =
     (getD sums (length h) 0 - getD sums from 0)
     (getD numbers (length h) 0 - getD numbers from 0)
 
-module _ {h numbers sums : List ℕ} (tables : Below h numbers sums) {T : Fraction} {from : ℕ} (at : Places h T from) where
+module _ {h numbers sums : List ℕ} (tables : Tables h numbers sums) {T : Fraction} {from : ℕ} (at : Places h T from) where
   -- nothing is taken from less
   pub sums-in : getD sums from 0 ≤ getD sums (length h) 0
-  sums-in = omega (arith, high-read (weight h) h sums (tables .sums-are) at)
+  sums-in = omega (arith, high-read (weight h) h sums (tables .summed-is) at)
 
   pub numbers-in : getD numbers from 0 ≤ getD numbers (length h) 0
-  numbers-in = omega (arith, high-read (countOf h) h numbers (tables .numbers-are) at)
+  numbers-in = omega (arith, high-read (countOf h) h numbers (tables .counted-is) at)
 
-  pub read : Few h → ReadFrom h numbers sums T from
+  pub read : Small h → ReadFrom h numbers sums T from
   read few =
       let n = length h in
       let u = whole T + 1 in
       let all : n ≤ n = le-refl n in
-      let a-small : getD sums u 0 ≤ 2147483648 = omega (arith, tables .sums-are u (at .up-to-in), sums-small few (at .up-to-in)) in
-      let b-small : getD numbers u 0 ≤ 1048576 = omega (arith, tables .numbers-are u (at .up-to-in), number-small few (at .up-to-in)) in
-      let c-small : getD sums n 0 - getD sums from 0 ≤ 2147483648 = omega (arith, tables .sums-are n all, sums-small few all) in
-      let e-small : getD numbers n 0 - getD numbers from 0 ≤ 1048576 = omega (arith, tables .numbers-are n all, number-small few all) in
+      let a-small : getD sums u 0 ≤ 2147483648 = omega (arith, tables .summed-is u (at .up-to-in), sums-small few (at .up-to-in)) in
+      let b-small : getD numbers u 0 ≤ 1048576 = omega (arith, tables .counted-is u (at .up-to-in), number-small few (at .up-to-in)) in
+      let c-small : getD sums n 0 - getD sums from 0 ≤ 2147483648 = omega (arith, tables .summed-is n all, sums-small few all) in
+      let e-small : getD numbers n 0 - getD numbers from 0 ≤ 1048576 = omega (arith, tables .counted-is n all, number-small few all) in
       record {
-        a-is = low-read (weight h) h sums (tables .sums-are) at;
-        b-is = low-read (countOf h) h numbers (tables .numbers-are) at;
-        c-is = omega (arith, high-read (weight h) h sums (tables .sums-are) at);
-        e-is = omega (arith, high-read (countOf h) h numbers (tables .numbers-are) at);
+        a-is = low-read (weight h) h sums (tables .summed-is) at;
+        b-is = low-read (countOf h) h numbers (tables .counted-is) at;
+        c-is = omega (arith, high-read (weight h) h sums (tables .summed-is) at);
+        e-is = omega (arith, high-read (countOf h) h numbers (tables .counted-is) at);
         b-small = b-small;
         ae-small = mul-le-mul a-small e-small;
         cb-small = mul-le-mul c-small b-small;
@@ -275,9 +271,9 @@ unfolding round
 round-is r i = fraction (r .a-is i * r .e-is i + r .c-is i * r .b-is i) (2 * r .b-is i * r .e-is i)
 
 -- and its denominator, twice the product of two numbers of values, is small
-pub denominator-small : (h : List ℕ) (T : Fraction) → Few h → round h T .denominator ≤ 2199023255552
+pub denominator-small : (h : List ℕ) (T : Fraction) → Small h → round h T .denominator ≤ 2199023255552
 unfolding round
 denominator-small h T few = omega (arith, mul-le-mul (number-most (low T)) (number-most (high T)))
   where
-    number-most : (p : ℕ → Bool) → over (length h) p (countOf h) ≤ 1048576
-    number-most p = omega (arith, over-rest (length h) p (countOf h), number-small few (le-refl (length h)))
+    number-most : (p : ℕ → Bool) → sumOver (length h) p (countOf h) ≤ 1048576
+    number-most p = le-trans (over-part (length h) p (countOf h)) (number-small few (le-refl (length h)))

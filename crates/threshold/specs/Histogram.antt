@@ -2,16 +2,16 @@
 use mathlib.Core.Path.{_≡_}
 use mathlib.Core.Bool.{cond}
 use mathlib.Core.List.{List}
-use Prim.Native.Nat.{ℕ, _+_, _/_, _<_, _≤_}
+use Prim.Native.Nat.{ℕ, _/_, _<_, _≤_}
 use lib.Dec.{eqb}
 use lib.ListN.{length, getD}
 use Rattle.numbers.specs.Refusals.{Unless}
 use Rattle.numbers.specs.Lists.{AtMost}
 use Rattle.numbers.specs.Sums.{sum}
 
--- "each filtered value adds one at its eighths divided by 8, rounded down": what n values, from place a on, add at level v
-unfoldable pub addedAt : List ℕ → ℕ → ℕ → ℕ → ℕ
-addedAt values a n v = sum n (λ i. cond (eqb (getD values (a + i) 0 / 8) v) 1 0)
+-- "each filtered value adds one at its eighths divided by 8, rounded down": what the values add at level v
+unfoldable pub addedAt : List ℕ → ℕ → ℕ
+addedAt values v = sum (length values) (λ i. cond (eqb (getD values i 0 / 8) v) 1 0)
 
 -- A histogram is the list of its counts, from that of level 0 on.
 abbrev pub countOf : List ℕ → ℕ → ℕ
@@ -40,7 +40,7 @@ tally n h = record { number = n; histogram = h }
 pub record Counted (values : List ℕ) (r : Tally) : Type 0 where
   pub number : r .number ≡ 0
   pub places : length (r .histogram) ≡ 256
-  pub counts : (v : ℕ) → v < 256 → countOf (r .histogram) v ≡ addedAt values 0 (length values) v
+  pub counts : (v : ℕ) → v < 256 → countOf (r .histogram) v ≡ addedAt values v
   pub total-is : total (r .histogram) ≡ length values
 
 -- "histogram not 256 long", "the values to be counted, out of range", and "nothing written" in both cases

@@ -24,28 +24,29 @@ pub(crate) fn countable(values: &[u16]) -> bool
     greatest(values) <= 2040
 }
 
-// The greatest of some values; 0 of none.
+// The greatest of some values, 0 of none: the least number that none of them exceeds.
 fn greatest(values: &[u16]) -> u16
     ensures { λ r. ⌜ Least (λ b. AtMost b (now (values .entry))) r ⌝ }
 {
     let mut most = 0u16;
     let mut i = 0usize;
     while i < values.len() {
-        most = greater(most, values[i]);
+        most = larger(most, values[i]);
         i += 1;
     }
     most
 }
 
-fn greater(a: u16, b: u16) -> u16
+fn larger(a: u16, b: u16) -> u16
     ensures { λ r. ⌜ r ≡ max a b ⌝ }
 {
     if a < b { b } else { a }
 }
 
-// The counts of values. Neighbours of a filtered picture often have the same level, and one place
-// cannot add twice at once: so the two halves of the values are counted side by side, each in an
-// array of its own that starts with a zero in each place, and put together.
+// The counts of values. Neighbours of a filtered picture often have one level, and one place cannot
+// be added to twice at once: so the loop counts the two halves of the values side by side, each in an
+// array of its own that starts with a zero in each place. Of an odd number the second half has the one
+// more.
 pub(crate) fn counted(values: &[u16]) -> [u32; 256]
     requires { ⌜ Countable (now values) ⌝ }
     ensures { λ r. ⌜ Added (now (values .entry)) 0 (length (now (values .entry))) r ⌝ }
@@ -54,16 +55,14 @@ pub(crate) fn counted(values: &[u16]) -> [u32; 256]
     let mut early = [0u32; 256];
     let mut late = [0u32; 256];
     let mut i = 0usize;
-    while i < half {
-        let one = (values[i] / 8) as usize;
+    while half + i < values.len() {
         let other = (values[half + i] / 8) as usize;
-        early[one] += 1;
         late[other] += 1;
+        if i < half {
+            let one = (values[i] / 8) as usize;
+            early[one] += 1;
+        }
         i += 1;
-    }
-    if half + i < values.len() {
-        let last = (values[half + i] / 8) as usize;
-        late[last] += 1;
     }
     together(early, late)
 }

@@ -3,12 +3,12 @@
 ghost use mathlib.Core.Path.{_≡_};
 ghost use Prim.Native.Nat.{_<_};
 ghost use Rattle.threshold.specs.Histogram.{total};
-ghost use Rattle.threshold.specs.TwoMeans.{lowest as lowestOf, highest as highestOf, nearest};
+ghost use Rattle.threshold.specs.TwoMeans.{level, lowest as lowestOf, highest as highestOf, start as startOf};
 
 // The start: `middle`, or the nearest end of the levels present.
 pub(crate) fn start(histogram: &[u32], middle: usize) -> usize
     requires { ⌜ 0 < total (now histogram) ⌝ }
-    ensures { λ r. ⌜ r ≡ nearest middle (lowestOf (now (histogram .entry))) (highestOf (now (histogram .entry))) ⌝ }
+    ensures { λ r. ⌜ level r ≡ startOf middle (now (histogram .entry)) ⌝ }
 {
     let low = lowest(histogram);
     let high = highest(histogram);
@@ -21,6 +21,7 @@ pub(crate) fn start(histogram: &[u32], middle: usize) -> usize
     middle
 }
 
+// Nothing stops the search at the histogram's end: its total is not 0, so some level is counted.
 fn lowest(histogram: &[u32]) -> usize
     requires { ⌜ 0 < total (now histogram) ⌝ }
     ensures { λ r. ⌜ r ≡ lowestOf (now (histogram .entry)) ⌝ }
@@ -32,6 +33,7 @@ fn lowest(histogram: &[u32]) -> usize
     v
 }
 
+// Nor this one, at level 0.
 fn highest(histogram: &[u32]) -> usize
     requires { ⌜ 0 < total (now histogram) ⌝ }
     ensures { λ r. ⌜ r ≡ highestOf (now (histogram .entry)) ⌝ }

@@ -4,20 +4,15 @@
 ghost use mathlib.Core.Path.{_≡_};
 ghost use Rattle.threshold.specs.Histogram.{tally, CountIs};
 ghost use Rattle.threshold.specs.TwoMeans.{TwoMeansIs, refused};
+use numbers::Fraction;
 use numbers::table;
 
 mod counting;
 mod ends;
 mod means;
 
-// A threshold as an exact fraction, not reduced.
-pub struct Fraction {
-    pub numerator: u64,
-    pub denominator: u64,
-}
-
-// What comes back: the table's number, the rounds, and the threshold at which they rest; zeros where
-// the number is not 0.
+// What comes back: the table's number, the rounds until the threshold rests, and that threshold;
+// zeros where the number is not 0.
 pub struct Threshold {
     pub number: u8,
     pub rounds: u64,
@@ -52,17 +47,17 @@ pub fn two_means(histogram: &[u32]) -> Threshold
     if histogram.len() != 256 {
         return refuse(table::WRONG_HISTOGRAM);
     }
-    let mut numbers = [0u64; 257];
-    let mut sums = [0u64; 257];
-    means::fill(histogram, &mut numbers, &mut sums);
-    let total = numbers[256];
+    let mut counted = [0u64; 257];
+    let mut summed = [0u64; 257];
+    means::fill(histogram, &mut counted, &mut summed);
+    let total = counted[256];
     if total == 0 {
         return refuse(table::EMPTY_HISTOGRAM);
     }
     if 1048576 < total {
         return refuse(table::LARGE_TOTAL);
     }
-    means::settle(histogram, &numbers, &sums, 128)
+    means::settle(histogram, &counted, &summed, 128)
 }
 
 fn refuse(number: u8) -> Threshold

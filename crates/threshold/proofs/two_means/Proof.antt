@@ -32,7 +32,7 @@ array-read-total : tie.Need-array-read-total
 array-read-total c = search needs
 
 -- where the tables are filled, the last of the numbers is the total
-module _ (s : tie.After-sums2) where
+module _ (s : tie.After-summed2) where
   abbrev histogram : List ℕ
   histogram = now (s .before .before .before .before .before .before .before .args .histogram)
 
@@ -75,8 +75,7 @@ settle-requires : tie.Need-settle-requires
 settle-requires c κs =
     let e = c .before .before in
     let s = e .before .before in (
-      s .before .before .fill .ensures,
-      record { levels = omega (arith, levels s); values = few-values e },
+      (s .before .before .fill .ensures, record { levels = omega (arith, levels s); values = few-values e }),
       pos-of-ne-zero (some-values (e .before)),
     )
 

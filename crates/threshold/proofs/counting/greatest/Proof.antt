@@ -18,14 +18,14 @@ abbrev μ-loop : tie.MeasureT-loop
 loop-holds : tie.Need-loop-holds Inv-loop μ-loop
 loop-holds c = (omega arith, most-none (now (c .before .args .values)))
 
-mul-greater : tie.Need-mul-greater Inv-loop μ-loop
-mul-greater c = omega arith
+mul-larger : tie.Need-mul-larger Inv-loop μ-loop
+mul-larger c = omega arith
 
-shared-slice-read-greater : tie.Need-shared-slice-read-greater Inv-loop μ-loop
-shared-slice-read-greater c = omega arith
+shared-slice-read-larger : tie.Need-shared-slice-read-larger Inv-loop μ-loop
+shared-slice-read-larger c = omega arith
 
-greater-requires : tie.Need-greater-requires Inv-loop μ-loop
-greater-requires c κs = search needs
+larger-requires : tie.Need-larger-requires Inv-loop μ-loop
+larger-requires c κs = search needs
 
 add-i : tie.Need-add-i Inv-loop μ-loop
 add-i c = omega arith
@@ -37,7 +37,7 @@ loop-again : tie.Need-loop-again Inv-loop μ-loop
 loop-again c =
     let values = now (c .before .before .before .before .before .args .values) in
     let o = c .before .before .before .loop in
-    (omega arith, rw (c .greater .ensures) (most-more values (o .most) (o .i) _ refl (o .inv .1)))
+    (omega arith, rw (c .larger .ensures) (most-more values (o .most) (o .i) _ refl (o .inv .1)))
 
 returns : tie.Need-returns Inv-loop μ-loop
 returns c =
@@ -51,9 +51,9 @@ greatest-spec =
     Inv-loop
     μ-loop
     loop-holds
-    mul-greater
-    shared-slice-read-greater
-    greater-requires
+    mul-larger
+    shared-slice-read-larger
+    larger-requires
     add-i
     loop-less
     loop-again

@@ -1,14 +1,15 @@
 -- `threshold::counting::put` meets its contract: each turn writes one place more. Assumes nothing.
-use Prim.Native.Nat.{_-_, _≤_}
-use mathlib.Core.Path.{refl}
+use Prim.Native.Nat.{ℕ, _-_, _≤_}
+use mathlib.Core.Path.{_≡_, refl}
+use mathlib.Core.List.{List}
 use native.Mathlib.Omega.{arith}
-use lib.ListN.{getD}
-use Rattle.threshold.proofs.Histograms.{Written, written-none, written-more, written-all}
+use lib.ListN.{length, getD}
+use Rattle.numbers.proofs.Lists.{Written, written-none, written-more, written-all}
 use Rattle.threshold.proofs.counting.put.Statement.{statement}
 use Rattle.threshold.proofs.counting.put.Tie as tie
 
 abbrev Inv-loop : tie.InvT-loop
-Inv-loop histogram₀ counts v₀ histogram v = (v ≤ 256) × Written (λ k. getD counts k 0) histogram v
+Inv-loop histogram₀ counts v₀ histogram v = (v ≤ 256) × Written (λ k. getD counts k 0) 256 histogram v
 
 abbrev μ-loop : tie.MeasureT-loop
 μ-loop histogram₀ counts v₀ histogram v = 256 - v
@@ -41,7 +42,11 @@ same-length : tie.Need-same-length Inv-loop μ-loop
 same-length c = omega arith
 
 returns : tie.Need-returns Inv-loop μ-loop
-returns c = let o = c .before .loop in written-all (o .histogram) _ (o .v) (omega arith) (c .before .before .good .0 .1 .0 .1) (o .inv .1)
+returns c =
+    let o = c .before .loop in
+    let counts : List ℕ = c .before .before .args .t1 in
+    let places : length counts ≡ 256 = c .before .before .good .0 .1 .0 .1 in
+    written-all (o .histogram) counts (o .v) (omega arith) places (o .inv .1)
 
 pub put-spec : {M : Type 1} → statement M
 put-spec =

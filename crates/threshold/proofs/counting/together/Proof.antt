@@ -3,12 +3,12 @@ use Prim.Native.Nat.{_+_, _-_, _≤_}
 use mathlib.Core.Path.{refl}
 use native.Mathlib.Omega.{arith}
 use lib.ListN.{getD}
-use Rattle.threshold.proofs.Histograms.{Written, written-none, written-more}
+use Rattle.numbers.proofs.Lists.{Written, written-none, written-more}
 use Rattle.threshold.proofs.counting.together.Statement.{statement}
 use Rattle.threshold.proofs.counting.together.Tie as tie
 
 abbrev Inv-loop : tie.InvT-loop
-Inv-loop early late counts₀ v₀ counts v = (v ≤ 256) × Written (λ k. getD early k 0 + getD late k 0) counts v
+Inv-loop early late counts₀ v₀ counts v = (v ≤ 256) × Written (λ k. getD early k 0 + getD late k 0) 256 counts v
 
 abbrev μ-loop : tie.MeasureT-loop
 μ-loop early late counts₀ v₀ counts v = 256 - v

@@ -7,28 +7,28 @@ use Rattle.threshold.proofs.means.fill.Statement.{statement}
 use Rattle.threshold.proofs.means.fill.Tie as tie
 
 abbrev Inv-loop : tie.InvT-loop
-Inv-loop histogram numbers₀ sums₀ number₀ sum₀ v₀ numbers sums number sum v = (v ≤ length histogram) × Filling histogram v numbers sums number sum
+Inv-loop histogram counted₀ summed₀ number₀ sum₀ v₀ counted summed number sum v = (v ≤ length histogram) × Filling histogram v counted summed number sum
 
 abbrev μ-loop : tie.MeasureT-loop
-μ-loop histogram numbers₀ sums₀ number₀ sum₀ v₀ numbers sums number sum v = length histogram - v
+μ-loop histogram counted₀ summed₀ number₀ sum₀ v₀ counted summed number sum v = length histogram - v
 
-slice-write-numbers : tie.Need-slice-write-numbers Inv-loop μ-loop
-slice-write-numbers c = omega arith
+slice-write-counted : tie.Need-slice-write-counted Inv-loop μ-loop
+slice-write-counted c = omega arith
 
-slice-write-sums : tie.Need-slice-write-sums Inv-loop μ-loop
-slice-write-sums c = omega arith
+slice-write-summed : tie.Need-slice-write-summed Inv-loop μ-loop
+slice-write-summed c = omega arith
 
 loop-holds : tie.Need-loop-holds Inv-loop μ-loop
-loop-holds c = (omega arith, filling-none _ (c .args .numbers .now) (c .args .sums .now) (c .pre .1) (c .pre .2))
+loop-holds c = (omega arith, filling-none _ (c .args .counted .now) (c .args .summed .now) (c .pre .1 .0) (c .pre .1 .1))
 
-mul-counted : tie.Need-mul-counted Inv-loop μ-loop
-mul-counted c = omega arith
+mul-count : tie.Need-mul-count Inv-loop μ-loop
+mul-count c = omega arith
 
-shared-slice-read-counted : tie.Need-shared-slice-read-counted Inv-loop μ-loop
-shared-slice-read-counted c = omega arith
+shared-slice-read-count : tie.Need-shared-slice-read-count Inv-loop μ-loop
+shared-slice-read-count c = omega arith
 
-cast-counted : tie.Need-cast-counted Inv-loop μ-loop
-cast-counted c = omega (arith, c .shared-slice-known .given (c .before .before .loop .v))
+cast-count : tie.Need-cast-count Inv-loop μ-loop
+cast-count c = omega (arith, c .shared-slice-known .given (c .before .before .loop .v))
 
 add-number : tie.Need-add-number Inv-loop μ-loop
 add-number c =
@@ -48,17 +48,17 @@ add-sum c =
 add-v : tie.Need-add-v Inv-loop μ-loop
 add-v c = omega arith
 
-mul-numbers : tie.Need-mul-numbers Inv-loop μ-loop
-mul-numbers c = omega arith
+mul-counted : tie.Need-mul-counted Inv-loop μ-loop
+mul-counted c = omega arith
 
-slice-write-numbers-2 : tie.Need-slice-write-numbers-2 Inv-loop μ-loop
-slice-write-numbers-2 c = omega arith
+slice-write-counted-2 : tie.Need-slice-write-counted-2 Inv-loop μ-loop
+slice-write-counted-2 c = omega arith
 
-mul-sums : tie.Need-mul-sums Inv-loop μ-loop
-mul-sums c = omega arith
+mul-summed : tie.Need-mul-summed Inv-loop μ-loop
+mul-summed c = omega arith
 
-slice-write-sums-2 : tie.Need-slice-write-sums-2 Inv-loop μ-loop
-slice-write-sums-2 c = omega arith
+slice-write-summed-2 : tie.Need-slice-write-summed-2 Inv-loop μ-loop
+slice-write-summed-2 c = omega arith
 
 loop-less : tie.Need-loop-less Inv-loop μ-loop
 loop-less c = omega arith
@@ -81,20 +81,20 @@ fill-spec =
     (tie.spec
     Inv-loop
     μ-loop
-    slice-write-numbers
-    slice-write-sums
+    slice-write-counted
+    slice-write-summed
     loop-holds
-    mul-counted
-    shared-slice-read-counted
-    cast-counted
+    mul-count
+    shared-slice-read-count
+    cast-count
     add-number
     mul-sum
     add-sum
     add-v
-    mul-numbers
-    slice-write-numbers-2
-    mul-sums
-    slice-write-sums-2
+    mul-counted
+    slice-write-counted-2
+    mul-summed
+    slice-write-summed-2
     loop-less
     loop-again
     same-length

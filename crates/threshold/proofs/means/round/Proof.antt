@@ -6,35 +6,33 @@ use borrow.Author.Needs.{needs}
 use Rattle.threshold.proofs.Tables.{Places, places-whole, places-part, whole-in, ReadFrom, sums-in, numbers-in, read, round-is}
 use Rattle.threshold.proofs.means.round.Statement.{statement}
 use Rattle.threshold.proofs.means.round.Tie as tie
-use Rattle.threshold.proofs.means.round.Reads as reads
-use Rattle.threshold.proofs.means.round.Lts as lts
 
 -- where the tables are read
-places : (c : lts.Joined1 reads.Pre reads.Post) →
+places : (c : tie.Joined1) →
     let given = c .before .before .before .before .args in
     Places (given .histogram .now) (given .t) (c .if1 .from)
 places c =
     let asked = c .before .before .before .before .pre in
     ⊎-elim
-    (λ w. places-whole _ _ (asked .2) (asked .3) (w .0 .taken) (w .1))
-    (λ w. places-part _ _ (asked .2) (asked .3) (w .0 .left) (w .1))
+    (λ w. places-whole _ _ (asked .1 .0) (asked .1 .1) (w .0 .taken) (w .1))
+    (λ w. places-part _ _ (asked .1 .0) (asked .1 .1) (w .0 .left) (w .1))
     (c .if1 .came)
 
 -- what is read there
-is-read : (c : lts.After-shared-slice-known6 reads.Pre reads.Post) →
+is-read : (c : tie.After-shared-slice-known6) →
     let joined = c .before .before .before .before .before .before .before in
     let given = joined .before .before .before .before .args in
-    ReadFrom (given .histogram .now) (given .numbers .now) (given .sums .now) (given .t) (joined .if1 .from)
+    ReadFrom (given .histogram .now) (given .counted .now) (given .summed .now) (given .t) (joined .if1 .from)
 is-read c =
     let joined = c .before .before .before .before .before .before .before in
     let asked = joined .before .before .before .before .pre in
-    read (asked .0) (places joined) (asked .1)
+    read (asked .0 .0) (places joined) (asked .0 .1)
 
 div-whole : tie.Need-div-whole
 div-whole c = search needs
 
 add-up-to : tie.Need-add-up-to
-add-up-to c = omega (arith, whole-in _ _ (c .before .pre .2) (c .before .pre .3))
+add-up-to c = omega (arith, whole-in _ _ (c .before .pre .1 .0) (c .before .pre .1 .1))
 
 mul-if1 : tie.Need-mul-if1
 mul-if1 c = omega (arith, div-mul-le-self (c .before .before .args .t .numerator) (c .before .before .args .t .denominator))
@@ -66,7 +64,7 @@ shared-slice-read-high-sum-2 c = omega (arith, places (c .before .before .before
 sub-high-sum : tie.Need-sub-high-sum
 sub-high-sum c =
     let joined = c .before .before .before .before .before in
-    sums-in (joined .before .before .before .before .pre .0) (places joined)
+    sums-in (joined .before .before .before .before .pre .0 .0) (places joined)
 
 mul-high-number : tie.Need-mul-high-number
 mul-high-number c = search needs
@@ -83,7 +81,7 @@ shared-slice-read-high-number-2 c = omega (arith, places (c .before .before .bef
 sub-high-number : tie.Need-sub-high-number
 sub-high-number c =
     let joined = c .before .before .before .before .before .before .before in
-    numbers-in (joined .before .before .before .before .pre .0) (places joined)
+    numbers-in (joined .before .before .before .before .pre .0 .0) (places joined)
 
 mul-numerator : tie.Need-mul-numerator
 mul-numerator c = omega (arith, is-read c)
