@@ -3,6 +3,7 @@ use mathlib.Core.Path.{_≡_, ap}
 use mathlib.Core.List.{List}
 use Prim.Native.Nat.{ℕ}
 use lib.IntN.{ℤ}
+use Rattle.numbers.specs.Fractions.{fraction}
 use Rattle.units.specs.Units.{sixteenths, picometres, eighths}
 use Rattle.units.specs.declared.Sixteenths.{Sixteenths}
 use Rattle.units.specs.declared.Picometres.{Picometres}
@@ -11,7 +12,6 @@ use Rattle.judge.specs.declared.Verdict.{Verdict}
 use Rattle.judge.specs.Judge.{verdict, JudgeIs}
 use Rattle.judge.proofs.Verdicts.{one-verdict}
 use Rattle.threshold.specs.declared.Threshold.{Threshold}
-use Rattle.numbers.specs.Fractions.{fraction}
 use Rattle.threshold.specs.TwoMeans.{answered, TwoMeansIs}
 use Rattle.threshold.proofs.Outcomes.{one-threshold}
 use Rattle.length.specs.declared.Sharpness.{Sharpness}

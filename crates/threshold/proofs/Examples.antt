@@ -9,6 +9,7 @@ use native.Mathlib.Nat.{pos-of-ne-zero, zero-add}
 use native.Mathlib.Decide.{decLe, ℕ-discrete}
 use native.Mathlib.Omega.{arith}
 use lib.ListN.{length, replicate, set}
+use Rattle.numbers.specs.declared.Fraction.{Fraction}
 use Rattle.numbers.specs.Greatest.{Least}
 use Rattle.numbers.specs.Sums.{sum}
 use Rattle.numbers.specs.Fractions.{fraction}
@@ -16,7 +17,6 @@ use Rattle.numbers.proofs.Greatest.{not-yet}
 use Rattle.numbers.proofs.Fractions.{one-pair-or-not}
 use Rattle.numbers.proofs.Refusals.{goes-on}
 use Rattle.numbers.proofs.Computed.{when}
-use Rattle.numbers.specs.declared.Fraction.{Fraction}
 use Rattle.threshold.specs.declared.Threshold.{Threshold}
 use Rattle.threshold.specs.Histogram.{total}
 use Rattle.threshold.specs.TwoMeans.{level, start, sumOver, round, Rests, threshold, Settled, answered, Done, TwoMeansIs}

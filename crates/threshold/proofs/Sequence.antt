@@ -11,11 +11,11 @@ use native.Mathlib.Omega.{arith}
 use lib.Dec.{ltb}
 use lib.ListN.{length}
 use borrow.Author.Tests.{le-leb, ltb-false}
-use Rattle.numbers.proofs.Sums.{sum-most}
 use Rattle.numbers.specs.declared.Fraction.{Fraction}
-use Rattle.threshold.specs.Histogram.{countOf, total}
 use Rattle.numbers.specs.Fractions.{Proper, Equal, NotMore}
+use Rattle.numbers.proofs.Sums.{sum-most}
 use Rattle.numbers.proofs.Fractions.{not-more-trans, either-way}
+use Rattle.threshold.specs.Histogram.{countOf, total}
 use Rattle.threshold.specs.TwoMeans.{level, lowest, highest, nearest, start, low, high, sumOver, weight, round, Within, Rests, threshold}
 use Rattle.threshold.specs.TwoMeans.{round, Rests, threshold}
 use Rattle.threshold.proofs.Present.{lowest-is, highest-is, lowest-below, highest-below}

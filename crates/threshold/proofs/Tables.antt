@@ -9,13 +9,13 @@ use native.Mathlib.Nat.{suc-mul, mul-add, mul-le-mul, mul-le-mul-right, div-mul-
 use native.Mathlib.Omega.{arith}
 use lib.ListN.{length, getD, set}
 use borrow.Author.Tests.{le-leb, lt-leb}
+use Rattle.numbers.specs.declared.Fraction.{Fraction}
 use Rattle.numbers.specs.Lists.{AtMost}
 use Rattle.numbers.specs.Sums.{sum}
+use Rattle.numbers.specs.Fractions.{fraction, Proper}
 use Rattle.numbers.proofs.Lists.{Written, written-none, written-more}
 use Rattle.numbers.proofs.Sums.{sum-none, sum-more, sum-most, sum-same, sum-part}
-use Rattle.numbers.specs.declared.Fraction.{Fraction}
 use Rattle.threshold.specs.Histogram.{countOf, total}
-use Rattle.numbers.specs.Fractions.{fraction, Proper}
 use Rattle.threshold.specs.TwoMeans.{highest, low, high, sumOver, weight, round, Within}
 use Rattle.threshold.specs.Asked.{Filled, Tables, Small}
 use Rattle.threshold.proofs.Present.{highest-below}
@@ -30,8 +30,8 @@ sum-of-levels (suc n) f = omega (arith, sum-of-levels n f, suc-mul n (sum n f + 
 
 -- ---- filling
 -- the tables are right up to level v, and its two numbers are at hand
-pub record Filling (h : List ℕ) (v : ℕ) (numbers sums : List ℕ) (number added : ℕ) : Type 0 where
-  pub filled : Filled h v numbers sums
+pub record Filling (h : List ℕ) (v : ℕ) (counted summed : List ℕ) (number added : ℕ) : Type 0 where
+  pub filled : Filled h v counted summed
   pub number-is : number ≡ sum v (countOf h)
   pub added-is : added ≡ sum v (weight h)
 
@@ -47,7 +47,7 @@ abbrev Table : (ℕ → ℕ) → List ℕ → List ℕ → ℕ → Type 0
 Table f h table v = Written f (length h + 1) table (v + 1)
 
 -- where those of both are, the two are right up to level v
-right-up-to : {h numbers sums : List ℕ} {v : ℕ} → Table (numberBelow h) h numbers v → Table (sumBelow h) h sums v → Filled h v numbers sums
+right-up-to : {h counted summed : List ℕ} {v : ℕ} → Table (numberBelow h) h counted v → Table (sumBelow h) h summed v → Filled h v counted summed
 right-up-to n s =
     record {
       counted-long = n .places;
@@ -57,45 +57,45 @@ right-up-to n s =
     }
 
 -- and where the two are right, those of both are written
-module _ {h numbers sums : List ℕ} {v : ℕ} (f : Filled h v numbers sums) where
-  numbers-written : Table (numberBelow h) h numbers v
-  numbers-written = record { places = f .counted-long; are = λ k b. f .counted-is k (omega arith) }
+module _ {h counted summed : List ℕ} {v : ℕ} (f : Filled h v counted summed) where
+  counted-written : Table (numberBelow h) h counted v
+  counted-written = record { places = f .counted-long; are = λ k b. f .counted-is k (omega arith) }
 
-  sums-written : Table (sumBelow h) h sums v
-  sums-written = record { places = f .summed-long; are = λ k b. f .summed-is k (omega arith) }
+  summed-written : Table (sumBelow h) h summed v
+  summed-written = record { places = f .summed-long; are = λ k b. f .summed-is k (omega arith) }
 
 -- nothing lies below level 0
-pub filling-none : (h numbers sums : List ℕ) → length numbers ≡ length h + 1 → length sums ≡ length h + 1 → Filling h 0 (set numbers 0 0) (set sums 0 0) 0 0
-filling-none h numbers sums long-numbers long-sums =
+pub filling-none : (h counted summed : List ℕ) → length counted ≡ length h + 1 → length summed ≡ length h + 1 → Filling h 0 (set counted 0 0) (set summed 0 0) 0 0
+filling-none h counted summed long-counted long-summed =
     let number-is : 0 ≡ numberBelow h 0 = sym (sum-none (countOf h)) in
     let added-is : 0 ≡ sumBelow h 0 = sym (sum-none (weight h)) in
     record {
       filled =
           right-up-to
-          (written-more (numberBelow h) numbers 0 0 (omega arith) number-is (written-none (numberBelow h) numbers long-numbers))
-          (written-more (sumBelow h) sums 0 0 (omega arith) added-is (written-none (sumBelow h) sums long-sums));
+          (written-more (numberBelow h) counted 0 0 (omega arith) number-is (written-none (numberBelow h) counted long-counted))
+          (written-more (sumBelow h) summed 0 0 (omega arith) added-is (written-none (sumBelow h) summed long-summed));
       number-is = number-is;
       added-is = added-is;
     }
 
-module _ {h numbers sums : List ℕ} {v number added : ℕ} (so-far : Filling h v numbers sums number added) where
+module _ {h counted summed : List ℕ} {v number added : ℕ} (so-far : Filling h v counted summed number added) where
   -- one level more
   pub filling-more : v < length h → let number' = number + countOf h v in let added' = added + weight h v in
-      Filling h (v + 1) (set numbers (v + 1) number') (set sums (v + 1) added') number' added'
+      Filling h (v + 1) (set counted (v + 1) number') (set summed (v + 1) added') number' added'
   filling-more turn =
       let number-is : number + countOf h v ≡ numberBelow h (v + 1) = omega (arith, so-far .number-is, sum-more v (countOf h)) in
       let added-is : added + weight h v ≡ sumBelow h (v + 1) = omega (arith, so-far .added-is, sum-more v (weight h)) in
       record {
         filled =
             right-up-to
-            (written-more (numberBelow h) numbers (v + 1) _ (omega arith) number-is (numbers-written (so-far .filled)))
-            (written-more (sumBelow h) sums (v + 1) _ (omega arith) added-is (sums-written (so-far .filled)));
+            (written-more (numberBelow h) counted (v + 1) _ (omega arith) number-is (counted-written (so-far .filled)))
+            (written-more (sumBelow h) summed (v + 1) _ (omega arith) added-is (summed-written (so-far .filled)));
         number-is = number-is;
         added-is = added-is;
       }
 
   -- no level is left
-  pub filling-all : v ≤ length h → length h ≤ v → Tables h numbers sums
+  pub filling-all : v ≤ length h → length h ≤ v → Tables h counted summed
   filling-all up-to past = let e : v ≡ length h = omega arith in rw e at (so-far .filled)
 
   -- with counts of 32 bits at 2,048 levels, what is stored fits 64 bits
@@ -204,18 +204,18 @@ module _ (f : ℕ → ℕ) (h table : List ℕ) (right : (v : ℕ) → v ≤ len
       )
 
 -- past the last level the first table has the total
-pub total-read : {h numbers sums : List ℕ} {n : ℕ} → length h ≡ n → Tables h numbers sums → getD numbers n 0 ≡ total h
+pub total-read : {h counted summed : List ℕ} {n : ℕ} → length h ≡ n → Tables h counted summed → getD counted n 0 ≡ total h
 unfolding total
 total-read {h} levels tables = rw (← levels) (tables .counted-is (length h) (le-refl (length h)))
 
 -- with at most 2,048 levels and a total of at most 1,048,576, what is read is small
-module _ {h : List ℕ} (few : Small h) {k : ℕ} (in-it : k ≤ length h) where
+module _ {h : List ℕ} (small : Small h) {k : ℕ} (in-it : k ≤ length h) where
   number-small : sum k (countOf h) ≤ 1048576
   unfolding total
-  number-small = le-trans (sum-part (countOf h) in-it) (few .values)
+  number-small = le-trans (sum-part (countOf h) in-it) (small .values)
 
-  sums-small : sum k (weight h) ≤ 2147483648
-  sums-small = omega (arith, sum-of-levels k (countOf h), mul-le-mul {n₁ = k} {n₂ = 2048} (omega (arith, few .levels)) number-small)
+  sum-small : sum k (weight h) ≤ 2147483648
+  sum-small = omega (arith, sum-of-levels k (countOf h), mul-le-mul {n₁ = k} {n₂ = 2048} (omega (arith, small .levels)) number-small)
 
 -- A, B, C, E of a round, and that what is made of them fits 64 bits
 pub record Read (h : List ℕ) (T : Fraction) (a b c e : ℕ) : Type 0 where
@@ -230,35 +230,35 @@ pub record Read (h : List ℕ) (T : Fraction) (a b c e : ℕ) : Type 0 where
 
 -- as they are read from the tables
 abbrev pub ReadFrom : List ℕ → List ℕ → List ℕ → Fraction → ℕ → Type 0
-ReadFrom h numbers sums T from =
+ReadFrom h counted summed T from =
     Read h T
-    (getD sums (whole T + 1) 0)
-    (getD numbers (whole T + 1) 0)
-    (getD sums (length h) 0 - getD sums from 0)
-    (getD numbers (length h) 0 - getD numbers from 0)
+    (getD summed (whole T + 1) 0)
+    (getD counted (whole T + 1) 0)
+    (getD summed (length h) 0 - getD summed from 0)
+    (getD counted (length h) 0 - getD counted from 0)
 
-module _ {h numbers sums : List ℕ} (tables : Tables h numbers sums) {T : Fraction} {from : ℕ} (at : Places h T from) where
+module _ {h counted summed : List ℕ} (tables : Tables h counted summed) {T : Fraction} {from : ℕ} (at : Places h T from) where
   -- nothing is taken from less
-  pub sums-in : getD sums from 0 ≤ getD sums (length h) 0
-  sums-in = omega (arith, high-read (weight h) h sums (tables .summed-is) at)
+  pub summed-in : getD summed from 0 ≤ getD summed (length h) 0
+  summed-in = omega (arith, high-read (weight h) h summed (tables .summed-is) at)
 
-  pub numbers-in : getD numbers from 0 ≤ getD numbers (length h) 0
-  numbers-in = omega (arith, high-read (countOf h) h numbers (tables .counted-is) at)
+  pub counted-in : getD counted from 0 ≤ getD counted (length h) 0
+  counted-in = omega (arith, high-read (countOf h) h counted (tables .counted-is) at)
 
-  pub read : Small h → ReadFrom h numbers sums T from
-  read few =
+  pub read : Small h → ReadFrom h counted summed T from
+  read small =
       let n = length h in
       let u = whole T + 1 in
       let all : n ≤ n = le-refl n in
-      let a-small : getD sums u 0 ≤ 2147483648 = omega (arith, tables .summed-is u (at .up-to-in), sums-small few (at .up-to-in)) in
-      let b-small : getD numbers u 0 ≤ 1048576 = omega (arith, tables .counted-is u (at .up-to-in), number-small few (at .up-to-in)) in
-      let c-small : getD sums n 0 - getD sums from 0 ≤ 2147483648 = omega (arith, tables .summed-is n all, sums-small few all) in
-      let e-small : getD numbers n 0 - getD numbers from 0 ≤ 1048576 = omega (arith, tables .counted-is n all, number-small few all) in
+      let a-small : getD summed u 0 ≤ 2147483648 = omega (arith, tables .summed-is u (at .up-to-in), sum-small small (at .up-to-in)) in
+      let b-small : getD counted u 0 ≤ 1048576 = omega (arith, tables .counted-is u (at .up-to-in), number-small small (at .up-to-in)) in
+      let c-small : getD summed n 0 - getD summed from 0 ≤ 2147483648 = omega (arith, tables .summed-is n all, sum-small small all) in
+      let e-small : getD counted n 0 - getD counted from 0 ≤ 1048576 = omega (arith, tables .counted-is n all, number-small small all) in
       record {
-        a-is = low-read (weight h) h sums (tables .summed-is) at;
-        b-is = low-read (countOf h) h numbers (tables .counted-is) at;
-        c-is = omega (arith, high-read (weight h) h sums (tables .summed-is) at);
-        e-is = omega (arith, high-read (countOf h) h numbers (tables .counted-is) at);
+        a-is = low-read (weight h) h summed (tables .summed-is) at;
+        b-is = low-read (countOf h) h counted (tables .counted-is) at;
+        c-is = omega (arith, high-read (weight h) h summed (tables .summed-is) at);
+        e-is = omega (arith, high-read (countOf h) h counted (tables .counted-is) at);
         b-small = b-small;
         ae-small = mul-le-mul a-small e-small;
         cb-small = mul-le-mul c-small b-small;
@@ -273,7 +273,7 @@ round-is r i = fraction (r .a-is i * r .e-is i + r .c-is i * r .b-is i) (2 * r .
 -- and its denominator, twice the product of two numbers of values, is small
 pub denominator-small : (h : List ℕ) (T : Fraction) → Small h → round h T .denominator ≤ 2199023255552
 unfolding round
-denominator-small h T few = omega (arith, mul-le-mul (number-most (low T)) (number-most (high T)))
+denominator-small h T small = omega (arith, mul-le-mul (number-most (low T)) (number-most (high T)))
   where
     number-most : (p : ℕ → Bool) → sumOver (length h) p (countOf h) ≤ 1048576
-    number-most p = le-trans (over-part (length h) p (countOf h)) (number-small few (le-refl (length h)))
+    number-most p = le-trans (over-part (length h) p (countOf h)) (number-small small (le-refl (length h)))

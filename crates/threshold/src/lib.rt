@@ -40,7 +40,7 @@ pub fn count(values: &[u16], histogram: &mut [u32]) -> u8
 // The threshold between the dark and the bright levels of a histogram: from 128, or the nearest end
 // of the levels present, half the sum of the mean of all levels up to it and the mean of all levels
 // from it on, again and again until it rests. Refused by 10 unless the histogram has 256 places, by
-// 11 where it is empty, by 12 where its total is above 1,048,576.
+// 11 where its counts are all 0, by 12 where its total is above 1,048,576.
 pub fn two_means(histogram: &[u32]) -> Threshold
     ensures { λ r. ⌜ TwoMeansIs (now (histogram .entry)) r ⌝ }
 {

@@ -4,9 +4,9 @@ use mathlib.Core.List.{List}
 use Prim.Native.Nat.{ℕ, _≤_}
 use native.Mathlib.Nat.{pos-of-ne-zero}
 use native.Mathlib.Omega.{arith}
+use lib.ListN.{length, getD}
 use borrow.Author.Needs.{needs}
 use denote.Ref.{now}
-use lib.ListN.{length, getD}
 use Rattle.numbers.proofs.Refusals.{stops, goes-on}
 use Rattle.threshold.specs.Histogram.{total}
 use Rattle.threshold.proofs.Tables.{total-read}

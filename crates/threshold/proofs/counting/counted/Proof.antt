@@ -1,12 +1,12 @@
 -- `threshold::counting::counted` meets its contract: each turn counts one value more of the late half, and of the early one while it has any.
 -- Assumes nothing.
-use Prim.Native.Nat.{ℕ, _+_, _-_, _/_, _<_, _≤_, min}
 use mathlib.Core.Path.{_≡_, refl}
 use mathlib.Core.List.{List}
 use mathlib.Core.Logic.{⊎-elim}
+use Prim.Native.Nat.{ℕ, _+_, _-_, _/_, _<_, _≤_, min}
 use native.Mathlib.Omega.{arith}
-use denote.Ref.{now}
 use lib.ListN.{length, getD}
+use denote.Ref.{now}
 use Rattle.threshold.specs.Asked.{Added}
 use Rattle.threshold.proofs.Histograms.{counts-none, counts-more, counts-most, counts-room, counts-together}
 use Rattle.threshold.proofs.counting.counted.Statement.{statement}

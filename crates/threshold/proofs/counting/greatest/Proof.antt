@@ -1,10 +1,10 @@
 -- `threshold::counting::greatest` meets its contract: after each value it has the greatest so far. Assumes nothing.
-use Prim.Native.Nat.{_-_, _≤_}
 use mathlib.Core.Path.{refl}
+use Prim.Native.Nat.{_-_, _≤_}
 use native.Mathlib.Omega.{arith}
+use lib.ListN.{length}
 use borrow.Author.Needs.{needs}
 use denote.Ref.{now}
-use lib.ListN.{length}
 use Rattle.threshold.proofs.Histograms.{Most, most-none, most-more, most-all}
 use Rattle.threshold.proofs.counting.greatest.Statement.{statement}
 use Rattle.threshold.proofs.counting.greatest.Tie as tie

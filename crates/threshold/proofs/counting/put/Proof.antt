@@ -1,7 +1,7 @@
 -- `threshold::counting::put` meets its contract: each turn writes one place more. Assumes nothing.
-use Prim.Native.Nat.{ℕ, _-_, _≤_}
 use mathlib.Core.Path.{_≡_, refl}
 use mathlib.Core.List.{List}
+use Prim.Native.Nat.{ℕ, _-_, _≤_}
 use native.Mathlib.Omega.{arith}
 use lib.ListN.{length, getD}
 use Rattle.numbers.proofs.Lists.{Written, written-none, written-more, written-all}

@@ -1,6 +1,6 @@
 -- `threshold::counting::together` meets its contract: each turn adds one place more. Assumes nothing.
-use Prim.Native.Nat.{_+_, _-_, _≤_}
 use mathlib.Core.Path.{refl}
+use Prim.Native.Nat.{_+_, _-_, _≤_}
 use native.Mathlib.Omega.{arith}
 use lib.ListN.{getD}
 use Rattle.numbers.proofs.Lists.{Written, written-none, written-more}

@@ -3,7 +3,7 @@ use mathlib.Core.Logic.{⊎-elim}
 use native.Mathlib.Nat.{div-mul-le-self}
 use native.Mathlib.Omega.{arith}
 use borrow.Author.Needs.{needs}
-use Rattle.threshold.proofs.Tables.{Places, places-whole, places-part, whole-in, ReadFrom, sums-in, numbers-in, read, round-is}
+use Rattle.threshold.proofs.Tables.{Places, places-whole, places-part, whole-in, ReadFrom, summed-in, counted-in, read, round-is}
 use Rattle.threshold.proofs.means.round.Statement.{statement}
 use Rattle.threshold.proofs.means.round.Tie as tie
 
@@ -64,7 +64,7 @@ shared-slice-read-high-sum-2 c = omega (arith, places (c .before .before .before
 sub-high-sum : tie.Need-sub-high-sum
 sub-high-sum c =
     let joined = c .before .before .before .before .before in
-    sums-in (joined .before .before .before .before .pre .0 .0) (places joined)
+    summed-in (joined .before .before .before .before .pre .0 .0) (places joined)
 
 mul-high-number : tie.Need-mul-high-number
 mul-high-number c = search needs
@@ -81,7 +81,7 @@ shared-slice-read-high-number-2 c = omega (arith, places (c .before .before .bef
 sub-high-number : tie.Need-sub-high-number
 sub-high-number c =
     let joined = c .before .before .before .before .before .before .before in
-    numbers-in (joined .before .before .before .before .pre .0 .0) (places joined)
+    counted-in (joined .before .before .before .before .pre .0 .0) (places joined)
 
 mul-numerator : tie.Need-mul-numerator
 mul-numerator c = omega (arith, is-read c)

@@ -3,9 +3,9 @@ use mathlib.Core.Path.{_≡_, sym, _∙_}
 use mathlib.Core.List.{List}
 use Prim.Native.Nat.{ℕ, _*_, _-_, _<_}
 use native.Mathlib.Omega.{arith}
+use lib.ListN.{length}
 use borrow.Author.Needs.{needs}
 use denote.Ref.{now}
-use lib.ListN.{length}
 use Rattle.numbers.proofs.Fractions.{they-differ, they-agree}
 use Rattle.threshold.specs.Histogram.{total}
 use Rattle.threshold.proofs.Settling.{Going, first-within, first-room, going-first, next-within, going-on, still-time, going-ends}
