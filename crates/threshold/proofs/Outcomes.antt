@@ -3,7 +3,8 @@
 use mathlib.Core.Path.{_≡_, ap}
 use mathlib.Core.List.{List}
 use mathlib.Core.Logic.{inl, inr}
-use Prim.Native.Nat.{ℕ, _<_, _≤_}
+use Prim.Native.Nat.{ℕ, _*_, _<_, _≤_}
+use native.Mathlib.Nat.{pos-of-ne-zero, mul-le-mul}
 use native.Mathlib.Omega.{arith}
 use lib.Dec.{lit≤}
 use lib.ListN.{length}
@@ -11,7 +12,9 @@ use lib.Seq.{ext-getD}
 use Rattle.numbers.proofs.Refusals.{past, alike, together}
 use Rattle.threshold.specs.declared.Threshold.{Threshold}
 use Rattle.threshold.specs.Histogram.{Countable, Tally, tally, Counted, CountIs}
-use Rattle.threshold.specs.TwoMeans.{answered, refused, Done, TwoMeansIs}
+use Rattle.threshold.specs.TwoMeans.{highest, threshold, answered, refused, Done, TwoMeansIs}
+use Rattle.threshold.proofs.Present.{highest-below}
+use Rattle.threshold.proofs.Tables.{denominator-small}
 use Rattle.threshold.proofs.Demand.{one-rounds, one-answer}
 
 -- ---- counting
@@ -67,6 +70,20 @@ when-settled h r done (inr (levels, inr (some, inr (few, d)))) = (levels, d)
 -- in at most 511 rounds
 pub in-511 : (h : List ℕ) (r : Threshold) → r .number ≡ 0 → TwoMeansIs h r → r .rounds ≤ 511
 in-511 h r done is = let d = when-settled h r done is in omega (arith, d .0, d .1 .settled .in-time)
+
+-- with a numerator below 2^49 and a denominator of at most 2^41
+pub value-small : (h : List ℕ) (r : Threshold) → r .number ≡ 0 → TwoMeansIs h r
+    → (r .value .numerator < 562949953421312) × (r .value .denominator ≤ 2199023255552)
+value-small h r done (inl a) = absurd (threshold-refused (lit≤ tt) (a .1) done)
+value-small h r done (inr (levels, inl a)) = absurd (threshold-refused (lit≤ tt) (a .1) done)
+value-small h r done (inr (levels, inr (some, inl a))) = absurd (threshold-refused (lit≤ tt) (a .1) done)
+value-small h r done (inr (levels, inr (some, inr (few, d)))) =
+    let s = d .settled in
+    let small : r .value .denominator ≤ 2199023255552 =
+        rw (s .answer) (denominator-small h (threshold 128 h (r .rounds)) (record { levels = omega (arith, levels); values = few })) in
+    let top : highest h ≤ 255 = omega (arith, levels, highest-below h (pos-of-ne-zero some)) in
+    let under : r .value .numerator * 1 ≤ highest h * r .value .denominator = s .rests .within .to-highest in
+    (omega (arith, mul-le-mul top small), small)
 
 -- a histogram that was counted has a threshold
 pub counted-has-one : (values : List ℕ) (counts : Tally) (r : Threshold) → Countable values → Counted values counts
