@@ -80,7 +80,7 @@ value-small h r done (inr (levels, inr (some, inl a))) = absurd (threshold-refus
 value-small h r done (inr (levels, inr (some, inr (few, d)))) =
     let s = d .settled in
     let small : r .value .denominator ≤ 2199023255552 =
-        rw (s .answer) (denominator-small h (threshold 128 h (r .rounds)) (record { levels = omega (arith, levels); values = few })) in
+    rw (s .answer) (denominator-small h (threshold 128 h (r .rounds)) (record { levels = omega (arith, levels); values = few })) in
     let top : highest h ≤ 255 = omega (arith, levels, highest-below h (pos-of-ne-zero some)) in
     let under : r .value .numerator * 1 ≤ highest h * r .value .denominator = s .rests .within .to-highest in
     (omega (arith, mul-le-mul top small), small)
