@@ -34,7 +34,7 @@
  *               else
  *                   fprintf(stderr, "refused: %d\n", number);    // 14; length is 0
  *
- * examples/c/ has whole programs: filter.c, measure.c, threshold.c and length.c.
+ * examples/c/ has whole programs: filter.c, measure.c, threshold.c, sample.c and length.c.
  */
 #ifndef GONG_H
 #define GONG_H
@@ -47,7 +47,7 @@ extern "C" {
 #endif
 
 /* The numbers that come back: when each is given, exactly, and what the call leaves in lent
- * buffers. The numbers of calls that are still to come are here too, for the table does not move. */
+ * buffers. 16 to 18 are of the program gongspindle, which is still to come: the table does not move. */
 enum gong_number {
     GONG_DONE = 0,                 /* done; buffers as the call says                                     */
     GONG_SIDE_OUT_OF_RANGE = 1,    /* width or height outside 1..1,024; nothing written                  */
@@ -138,6 +138,26 @@ uint8_t gong_count(const uint16_t *values, size_t values_len, uint32_t *histogra
  * divide. */
 uint8_t gong_two_means(const uint32_t *histogram, size_t histogram_len, uint64_t *rounds, uint64_t *numerator,
                        uint64_t *denominator);
+
+/* A picture's level at a place between its pixels, by cubic interpolation.
+ *   levels, width, height   the picture, as for gong_filter: the original levels, not the filtered ones
+ *   x, y     the place, in sixteenths of a pixel: x = 16 i + k is column i, counted from 0, and k
+ *            sixteenths, 0 to 15, towards the next; y likewise, with row j and a remainder of its own
+ *   value    receives the sample, in 1/67,108,864 (that is 2^-26) of a level: from -4,812,963,840 to
+ *            21,925,724,160, that is from about -71.7 to 326.7 levels, for a cubic overshoots beside a
+ *            step from dark to bright. (double)value / 67108864 is the sample in levels, exactly
+ * The sample is the sum, over the columns i-1 to i+2 of the rows j-1 to j+2, of level times row weight
+ * times column weight. The four weights of a remainder k are, in 1/8,192,
+ *   -256 k + 32 k^2 - k^3;  8,192 - 80 k^2 + 3 k^3;  256 k + 64 k^2 - 3 k^3;  -16 k^2 + k^3.
+ * So column i must have one before it and two after it, and row j likewise, also where k is 0:
+ * 1 <= i <= width - 3 and 1 <= j <= height - 3, that is x from 16 to 16 width - 33 and y from 16 to
+ * 16 height - 33. A negative x or y is outside, whatever its size.
+ * On a pixel (k = 0 both ways) the sample is the pixel's own level, and in a picture of one level it
+ * is that level everywhere, exactly.
+ * value must lie outside the levels.
+ * Returns 0; or 1, 2, or 13 where the place is outside, and then the value is 0. */
+uint8_t gong_sample(const uint8_t *levels, size_t levels_len, size_t width, size_t height, int64_t x, int64_t y,
+                    int64_t *value);
 
 /* The length of a sharpness.
  *   factor   the sharpness factor, in sixteenths of a pixel: 1 to 16,384

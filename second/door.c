@@ -8,7 +8,6 @@
 #include <inttypes.h>
 #include <stdio.h>
 #include <stdlib.h>
-#include <string.h>
 
 #include "gong.h"
 
@@ -26,6 +25,7 @@ static int bytes(void *to, size_t count) { return fread(to, 1, count, stdin) == 
 
 /* The machine is little-endian, as x86-64 is, and so are the requests. */
 static int number(uint64_t *to) { return bytes(to, 8); }
+static int signed_number(int64_t *to) { return bytes(to, 8); }
 
 static int slice(void *space, size_t width, size_t most, size_t *count)
 {
@@ -151,15 +151,28 @@ static int two_means(void)
     return 1;
 }
 
-static int length(void)
+static int sample(void)
 {
-    uint64_t factor, pixel, picometres = UINT64_MAX;
-    int64_t sixteenths;
+    uint64_t width, height;
+    int64_t x, y, value = -1;
+    size_t count;
     int number_back;
 
-    if (!number(&factor) || !number(&pixel)) return 0;
-    memcpy(&sixteenths, &factor, 8);
-    number_back = gong_length(sixteenths, pixel, &picometres);
+    if (!slice(levels_space, 1, MOST, &count) || !number(&width) || !number(&height)) return 0;
+    if (!signed_number(&x) || !signed_number(&y)) return 0;
+    number_back = gong_sample(count ? levels_space : NULL, count, width, height, x, y, &value);
+    printf("s %d %" PRId64 "\n", number_back, value);
+    return 1;
+}
+
+static int length(void)
+{
+    uint64_t pixel, picometres = UINT64_MAX;
+    int64_t factor;
+    int number_back;
+
+    if (!signed_number(&factor) || !number(&pixel)) return 0;
+    number_back = gong_length(factor, pixel, &picometres);
     printf("l %d %" PRIu64 "\n", number_back, picometres);
     return 1;
 }
@@ -176,6 +189,7 @@ int main(void)
         case 'j': good = judge(); break;
         case 'c': good = count(); break;
         case 't': good = two_means(); break;
+        case 's': good = sample(); break;
         case 'l': good = length(); break;
         default: good = 0;
         }

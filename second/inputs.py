@@ -75,17 +75,25 @@ def lent(rng, levels, width, height):
     """A picture with two buffers: mostly good, else a side out of range, a wrong number of levels, a short buffer."""
     output, work = len(levels) + rng.choice((0, 0, 0, 1, 5)), len(levels) + rng.choice((0, 0, 0, 1, 5))
     wrong = rng.choice(6 * ('nothing',) + ('side', 'sides', 'levels', 'output', 'work', 'buffers'))
-    if wrong in ('side', 'sides'):
-        width = rng.choice((0, near(rng, 1_025), wide(rng, 64)))
-    if wrong == 'sides':
-        height = rng.choice((0, near(rng, 1_025), wide(rng, 64)))
-    if wrong == 'levels':
-        levels = rng.choice((levels[1:], levels + [7], [], levels * 2))
+    levels, width, height = shaped(rng, wrong, levels, width, height)
     if wrong in ('output', 'buffers'):
         output = rng.choice((len(levels) - 1, rng.randrange(len(levels)), 0))
     if wrong in ('work', 'buffers'):
         work = rng.choice((len(levels) - 1, rng.randrange(len(levels)), 0))
     return levels, width, height, (output, fill(rng)), (work, fill(rng))
+
+
+def shaped(rng, wrong, levels, width, height):
+    """A picture as it is lent: with what is said to be wrong, a side, both sides or the levels, or as it is."""
+    def bad():
+        return rng.choice((0, near(rng, 1_025), wide(rng, 64)))
+    if wrong == 'side':
+        width, height = rng.choice(((bad(), height), (width, bad())))
+    if wrong == 'sides':
+        width, height = bad(), bad()
+    if wrong == 'levels':
+        levels = rng.choice((levels[1:], levels + [7], [], levels * 2))
+    return levels, width, height
 
 
 def micrograph(rng, width, height, ground=None, noise=None):
@@ -250,6 +258,38 @@ def two_means_arguments(rng):
     return counts,
 
 
+def sample_arguments(rng):
+    """A picture and a place: inside, at one of the four borders, left or above, far away; or a picture that is wrong."""
+    width, height = rng.choice((
+        lambda: (rng.randint(4, 9), rng.randint(4, 9)),
+        lambda: (rng.randint(4, 9), rng.randint(4, 9)),
+        lambda: (4, rng.randint(4, 20)),
+        lambda: (rng.randint(4, 20), 4),
+        lambda: sides(rng),
+    ))()
+    levels = picture(rng, rng.choice(KINDS), width, height)
+    inside = rng.random() < 0.5
+    x, y = (rng.randint(16, max(16 * side - 33, 16)) if inside else coordinate(rng, side) for side in (width, height))
+    wrong = rng.choice(8 * ('nothing',) + ('side', 'sides', 'levels', 'turned'))
+    if wrong == 'turned':
+        width, height = height, width
+    return *shaped(rng, wrong, levels, width, height), x, y
+
+
+def coordinate(rng, side):
+    """One coordinate of a place, along a side: half of them have a sample, if the side is long enough for one."""
+    last = 16 * side - 33  # the last that has one
+    within = rng.randint(16, max(last, 16))
+    return rng.choice(6 * (lambda: within,) + (
+        lambda: near(rng, 16, last),
+        lambda: 16 * rng.randint(0, side) + rng.choice((-1, 0)),
+        lambda: rng.randint(-40, 16 * side + 40),
+        lambda: wide(rng, 63) * rng.choice((1, -1)),
+        lambda: within + rng.choice((1, -1)) * 2**rng.choice((8, 16, 32, 36, 48, 60, 62, rng.randint(8, 62))),  # inside, if high bits were lost
+        lambda: rng.choice((-2**63, 2**63 - 1)),
+    ))()
+
+
 # For each call, what makes good arguments for it.
 ARGUMENTS = {
     b'f': filter_arguments,
@@ -257,6 +297,7 @@ ARGUMENTS = {
     b'j': judge_arguments,
     b'c': count_arguments,
     b't': two_means_arguments,
+    b's': sample_arguments,
     b'l': length_arguments,
 }
 
@@ -314,6 +355,7 @@ EXAMPLES = {
     b'j': (256, 25_600, 6_400, 419_430_400),
     b'c': ([0, 7, 8, 2_040], (256, 9)),
     b't': ([3, 0, 1] + [0] * 253,),
+    b's': ([0, 0, 255, 255] * 4, 4, 4, 24, 24),
     b'l': (32, 800),
 }
 
@@ -346,8 +388,15 @@ def every_kind(rng, width, height):
     return made
 
 
+def every_place(rng, width, height):
+    """Every place of a small picture, and those around it: all remainders, and all four borders."""
+    levels = picture(rng, 'random', width, height)
+    return b''.join(wire.encoded(b's', levels, width, height, x, y)
+                    for y in range(-18, 16 * height + 3) for x in range(-18, 16 * width + 3))
+
+
 def large(rng):
-    """The largest picture, filtered and measured; the longest thin ones; the most values; slices and buffers as long as may be."""
+    """The largest picture, filtered, measured and sampled; the longest thin ones; the most values; slices and buffers as long as may be."""
     whole = picture(rng, 'random', 1_024, 1_024)
     made = wire.encoded(b'f', whole, 1_024, 1_024, (len(whole) + 1, fill(rng)), (len(whole), fill(rng)))
     seen = micrograph(rng, 1_024, 1_024, ground=(40, 200), noise=20)  # a ratio, whatever the seed
@@ -358,6 +407,12 @@ def large(rng):
     for width, height in ((1_024, 4), (4, 1_024), (1_020, 4), (4, 1_020), (100, 84)):
         levels = micrograph(rng, width, height)
         made += wire.encoded(b'm', levels, width, height, (len(levels), fill(rng)), (len(levels), fill(rng)))
+    # the largest picture's four corners, and past two of them
+    for x, y in ((16, 16), (16_351, 16), (16, 16_351), (16_351, 16_351), (16_352, 16), (16, 16_352)):
+        made += wire.encoded(b's', whole, 1_024, 1_024, x, y)
+    made += wire.encoded(b's', whole + [1], 1_024, 1_024, 16, 16)  # one level too many: 2
+    for width, height in ((1_024, 4), (4, 1_024)):
+        made += wire.encoded(b's', picture(rng, 'random', width, height), width, height, 16 * width - 33, 16 * height - 33)  # the last place
     for most in (2_040, 8, 2_041):  # as many values as may be counted: of every level, of two, and one that is too large
         values = [rng.randint(0, 2_040) % most for _ in range(1_048_575)] + [most]
         made += wire.encoded(b'c', values, (256, fill(rng)))

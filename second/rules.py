@@ -22,12 +22,19 @@ def filter(levels, width, height, output, work):
     return number,
 
 
-def refused(levels, width, height, output, work):
-    """The numbers 1 to 4, from the sizes of what is lent; 0 where none of them applies."""
+def misshapen(levels, width, height):
+    """The numbers 1 and 2, from a picture's sides and how many levels are lent; 0 where neither applies."""
     if not 1 <= width <= 1_024 or not 1 <= height <= 1_024:
         return 1
     if levels != width * height:
         return 2
+    return 0
+
+
+def refused(levels, width, height, output, work):
+    """The numbers 1 to 4, from the sizes of what is lent; 0 where none of them applies."""
+    if number := misshapen(levels, width, height):
+        return number
     if output < width * height:
         return 3
     if work < width * height:
@@ -149,6 +156,29 @@ def sides(histogram, threshold):
         if level >= threshold:
             c, e = c + level * times, e + times
     return a, b, c, e
+
+
+def sample(levels, width, height, x, y):
+    """"Cubic samples": x and y in sixteenths of a pixel. The number, and the sample in 1/67,108,864 levels."""
+    if number := misshapen(len(levels), width, height):
+        return number, 0
+    # "A place is x, y in sixteenths of a pixel: column i, row j and remainders k." Python divides down.
+    (i, across), (j, down) = divmod(x, 16), divmod(y, 16)
+    if not 1 <= i <= width - 3 or not 1 <= j <= height - 3:
+        return 13, 0
+    # "the sum over 4×4 original levels of row weight times column weight"
+    return 0, sum(
+        row_weight * column_weight * levels[row * width + column]
+        for row, row_weight in zip(range(j - 1, j + 3), weights(down), strict=True)
+        for column, column_weight in zip(range(i - 1, i + 3), weights(across), strict=True))
+
+
+def weights(k):
+    """"For remainder k the weights on pixels i−1, i, i+1, i+2, in 1/8,192"."""
+    return (-256 * k + 32 * k**2 - k**3,
+            8_192 - 80 * k**2 + 3 * k**3,
+            256 * k + 64 * k**2 - 3 * k**3,
+            -16 * k**2 + k**3)
 
 
 def length(factor, pixel):

@@ -89,6 +89,7 @@ CALLS = {
     b'j': Call([UNSIGNED, UNSIGNED, UNSIGNED, UNSIGNED], rules.judge),
     b'c': Call([VALUES, COUNT_BUFFER], rules.count),
     b't': Call([COUNTS], rules.two_means),
+    b's': Call([LEVELS, UNSIGNED, UNSIGNED, SIGNED, SIGNED], rules.sample),
     b'l': Call([SIGNED, UNSIGNED], rules.length),
 }
 

@@ -1,7 +1,8 @@
 """What document 01 works out by hand, with the answers that the document itself prints.
 
 These are typed from the document ("What a student can work by hand") and not computed: they hold
-this second program to the paper, as the comparison holds the first program to this one.
+this second program to the paper, as the comparison holds the first program to this one. (One is
+worked out from a sentence: a sample on a pixel is the pixel's own level.)
 Each row: the call, its arguments, what comes back.
 """
 import rules
@@ -83,6 +84,10 @@ WORKED = [
     (rests, (histogram(v100=1, v128=1, v156=1), 135), True),
     # the same record's "0 5242880/131072": its rounds and its threshold
     (counted_and_parted, (16, 16, [40] * 256), (0, 0, 5_242_880, 131_072)),
+    # "Four columns 0 0 255 255, four rows, both remainders 8: 8,556,380,160 (127.5 levels) at i = j = 1."
+    (rules.sample, ([0, 0, 255, 255] * 4, 4, 4, 16 + 8, 16 + 8), (0, 8_556_380_160)),
+    # "At k = 0 both ways it is the pixel's own level, exactly": in 1/67,108,864, at column 2 and row 1 of 6×5
+    (rules.sample, (list(range(30)), 6, 5, 2 * 16, 1 * 16), (0, 8 * 67_108_864)),
     # "s = 32, p = 800: 1,131."
     (rules.length, (32, 800), (0, 1_131)),
 ]

@@ -185,6 +185,54 @@ pub(crate) fn two_means(block: &mut [u8], counts: &mut [u32]) -> bool
     true
 }
 
+// `s`: levels, width, height, x, y.
+pub(crate) fn sample(block: &mut [u8], levels: &mut [u8]) -> bool
+    requires { ⌜ 32 ≤ length (now block) ⌝ }
+{
+    let l = request::levels(levels);
+    if !l.whole {
+        return false;
+    }
+    let Unsigned::Of(width) = request::number() else {
+        return false;
+    };
+    let Unsigned::Of(height) = request::number() else {
+        return false;
+    };
+    let Signed::Of(x) = request::signed_number() else {
+        return false;
+    };
+    let Signed::Of(y) = request::signed_number() else {
+        return false;
+    };
+    let i = l.count;
+    sample_lent(
+        block,
+        &levels[..i],
+        width as usize,
+        height as usize,
+        Sixteenths::of(x),
+        Sixteenths::of(y),
+    );
+    true
+}
+
+// The call by itself, so that the prover finds the lengths of the spaces without help.
+fn sample_lent(
+    block: &mut [u8],
+    levels: &[u8],
+    width: usize,
+    height: usize,
+    x: Sixteenths,
+    y: Sixteenths,
+)
+    requires { ⌜ 32 ≤ length (now block) ⌝ }
+{
+    let r = sample::sample(levels, width, height, x, y);
+    let at = answer::signed_line(block, b's', r.number as u64, r.value);
+    answer::send(block, at);
+}
+
 // `l`: factor, pixel.
 pub(crate) fn length(block: &mut [u8]) -> bool
     requires { ⌜ 32 ≤ length (now block) ⌝ }

@@ -36,6 +36,7 @@ fn call(
         b'j' => each::judge(block),
         b'c' => each::count(block, one, counts),
         b't' => each::two_means(block, counts),
+        b's' => each::sample(block, levels),
         b'l' => each::length(block),
         _ => false,
     }

@@ -8,7 +8,8 @@ use lib.Dec.{lit≤}
 use lib.ListN.{length, drop}
 use Rattle.numbers.proofs.Refusals.{goes-on, past, alike, carried, together}
 use Rattle.numbers.specs.Lists.{AtMost}
-use Rattle.filter.specs.Filter.{quarters, eighths, Side, Sized, Outcome, outcome, Filtered, FilterIs}
+use Rattle.picture.specs.Picture.{Side}
+use Rattle.filter.specs.Filter.{quarters, eighths, Sized, Outcome, outcome, Filtered, FilterIs}
 use Rattle.filter.proofs.Ranges.{most-eighths}
 use Rattle.filter.proofs.Drawn.{length-eighths}
 

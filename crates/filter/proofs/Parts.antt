@@ -2,7 +2,7 @@
 use mathlib.Core.Path.{_≡_, sym, ap, _∙_}
 use mathlib.Core.List.{List, [], _∷_, _++_, append-assoc}
 use Prim.Native.Nat.{ℕ, zero, suc, _+_, _-_, _*_, _≤_}
-use native.Mathlib.Nat.{sub-zero, zero-add, suc-sub-suc, zero-mul, suc-mul, mul-comm, mul-one, mul-le-mul, le-of-suc-le-suc, not-suc-le-zero}
+use native.Mathlib.Nat.{sub-zero, zero-add, suc-sub-suc, zero-mul, suc-mul, mul-comm, mul-one, le-of-suc-le-suc, not-suc-le-zero}
 use native.Mathlib.Numerals.{add-one}
 use native.Mathlib.Omega.{arith}
 use lib.ListN.{length, take, drop, length-take, length-drop, length-append, drop-of-length-le}
@@ -10,14 +10,10 @@ use lib.Seq.{slice, length-slice, drop-nil, take-nil, take-at, take-all}
 use Rattle.numbers.proofs.Order.{row-end}
 use Rattle.numbers.specs.Lists.{joined, AtMost}
 use Rattle.filter.specs.Median.{rowOf, passRow, pass}
-use Rattle.filter.specs.Filter.{Side}
+use Rattle.picture.proofs.Shapes.{pixels}
 use Rattle.filter.specs.Asked.{Row, Picture}
 use Rattle.numbers.proofs.Lists.{most-slice}
 use Rattle.filter.proofs.Blocks.{lower-row}
-
--- a picture has at most 1,048,576 pixels
-pub pixels : (w h : ℕ) → Side w × Side h → w * h ≤ 1048576
-pixels w h s = mul-le-mul (s .0 .1) (s .1 .1)
 
 -- a picture of two rows or more has room for two
 pub room-for-two : (w h : ℕ) (x : List ℕ) → Picture w h x → 2 ≤ h → (w + w ≤ length x) × (w * h ≤ 1048576)

@@ -9,7 +9,8 @@ use lib.Seq.{slice}
 use Rattle.numbers.specs.Lists.{AtMost}
 use Rattle.numbers.proofs.Lists.{most-cons, most-append, most-slice, most-joined}
 use Rattle.filter.specs.Median.{near, insert, insertAll, sorted, twiceMedian, block, rowOf, passRow, pass}
-use Rattle.filter.specs.Filter.{Side, halves, quarters, eighths}
+use Rattle.picture.specs.Picture.{Side}
+use Rattle.filter.specs.Filter.{halves, quarters, eighths}
 use Rattle.filter.specs.Asked.{Picture}
 
 -- a level put into its place

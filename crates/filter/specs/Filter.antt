@@ -1,10 +1,12 @@
--- Document 01, "Pictures and lent memory", "The median, three times", and the numbers 0 to 4 of its table.
+-- Document 01, "Pictures and lent memory", "The median, three times", and the numbers 0, 3 and 4 of its table
+-- (1 and 2 are in crates/picture/specs/Picture.antt).
 use mathlib.Core.Path.{_≡_}
 use mathlib.Core.List.{List, _++_}
 use Prim.Native.Nat.{ℕ, _*_, _≤_}
 use lib.ListN.{length, drop}
 use Rattle.numbers.specs.Refusals.{Unless}
 use Rattle.numbers.specs.Lists.{AtMost}
+use Rattle.picture.specs.Picture.{Shaped}
 use Rattle.filter.specs.Median.{pass}
 
 -- "the first pass is held in halves, the second in quarters, the third in eighths"
@@ -17,19 +19,14 @@ quarters w h levels = pass w h (halves w h levels)
 unfoldable pub eighths : ℕ → ℕ → List ℕ → List ℕ
 eighths w h levels = pass w h (quarters w h levels)
 
--- "A picture has width w and height h, each 1 to 1,024"
-abbrev pub Side : ℕ → Type 0
-Side n = (1 ≤ n) × (n ≤ 1024)
-
--- The numbers 1 to 4, from the sizes of what is lent: "w or h outside 1..1,024", "levels lent ≠ w·h", "output shorter than
--- w·h", "work buffer shorter than w·h". `refused n` says what holds where n comes back, `fits` what holds past all four.
+-- The numbers 1 to 4, from the sizes of what is lent: those of the picture's shape, then "output shorter than w·h", "work
+-- buffer shorter than w·h". `refused n` says what holds where n comes back, `fits` what holds past all four.
 abbrev pub Sized : ℕ → ℕ → ℕ → ℕ → ℕ → (ℕ → Type 0) → Type 0 → Type 0
 Sized levels w h output work refused fits =
-    Unless (Side w × Side h) (refused 1)
-    (Unless (levels ≡ w * h) (refused 2)
+    Shaped levels w h refused
     (Unless (w * h ≤ output) (refused 3)
     (Unless (w * h ≤ work) (refused 4)
-    fits)))
+    fits))
 
 -- what a call on lent buffers answers and leaves: the number, and the elements of both
 pub record Outcome : Type 0 where

@@ -34,22 +34,11 @@ pub fn filter(
 pub fn sizes(levels: usize, width: usize, height: usize, output: usize, work: usize) -> u8
     ensures { λ r. ⌜ Sized levels width height output work (λ n. r ≡ n) (r ≡ 0) ⌝ }
 {
-    if width < 1 {
-        return table::SIDE_OUT_OF_RANGE;
-    }
-    if 1024 < width {
-        return table::SIDE_OUT_OF_RANGE;
-    }
-    if height < 1 {
-        return table::SIDE_OUT_OF_RANGE;
-    }
-    if 1024 < height {
-        return table::SIDE_OUT_OF_RANGE;
+    let refusal = picture::shape(levels, width, height);
+    if refusal != table::DONE {
+        return refusal;
     }
     let n = width * height;
-    if levels != n {
-        return table::WRONG_LEVELS;
-    }
     if output < n {
         return table::SHORT_OUTPUT;
     }

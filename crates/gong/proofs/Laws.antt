@@ -14,6 +14,9 @@ use Rattle.judge.proofs.Verdicts.{one-verdict}
 use Rattle.threshold.specs.declared.Threshold.{Threshold}
 use Rattle.threshold.specs.TwoMeans.{answered, TwoMeansIs}
 use Rattle.threshold.proofs.Outcomes.{one-threshold}
+use Rattle.sample.specs.declared.Sampled.{Sampled}
+use Rattle.sample.specs.Cubic.{sampled, SampleIs}
+use Rattle.sample.proofs.Outcomes.{one-sample}
 use Rattle.length.specs.declared.Sharpness.{Sharpness}
 use Rattle.length.specs.Length.{answer, LengthIs}
 use Rattle.length.proofs.Laws.{one-answer}
@@ -25,6 +28,10 @@ handed-on factor pixel length is = rw (length, ← factor, ← pixel) is
 -- and a verdict on M and m in eighths is a verdict on their numbers
 pub judged-on : {N D : ℕ} {M M' m m' : Eighths} {v : Verdict} → M ≡ M' → m ≡ m' → JudgeIs N M m D v → JudgeIs N M' m' D v
 judged-on bright dark is = rw (← bright, ← dark) is
+
+-- and a sample at a place in sixteenths is one at its numbers, and its value goes out as a plain number
+pub sampled-on : (levels : List ℕ) (w h : ℕ) {x x' y y' : Sixteenths} (r : Sampled) {v : ℤ} → x ≡ x' → y ≡ y' → v ≡ r .value → SampleIs levels w h x y r → SampleIs levels w h x' y' (sampled (r .number) v)
+sampled-on levels w h r column row value is = rw (value, ← column, ← row) is
 
 -- any two outcomes that `gong_judge` is permitted, the number that it returns and the ratio that it writes, are equal
 module _ (N M m D n q n' q' : ℕ) (this : JudgeIs N (eighths M) (eighths m) D (verdict n q)) (that : JudgeIs N (eighths M) (eighths m) D (verdict n' q')) where
@@ -46,6 +53,14 @@ module _ (h : List ℕ) (n k a b n' k' a' b' : ℕ) (this : TwoMeansIs h (answer
     ap (λ (t : Threshold). t .value .numerator) same-threshold,
     ap (λ (t : Threshold). t .value .denominator) same-threshold,
   )
+
+-- any two outcomes that `gong_sample` is permitted, the number that it returns and the value that it writes, are equal
+module _ (levels : List ℕ) (w h : ℕ) (x y : ℤ) (n n' : ℕ) (v v' : ℤ) (this : SampleIs levels w h (sixteenths x) (sixteenths y) (sampled n v)) (that : SampleIs levels w h (sixteenths x) (sixteenths y) (sampled n' v')) where
+  same-sample : sampled n v ≡ sampled n' v'
+  same-sample = one-sample levels w h (sixteenths x) (sixteenths y) (sampled n v) (sampled n' v') this that
+
+  pub one-value : (n ≡ n') × (v ≡ v')
+  one-value = (ap (λ (r : Sampled). r .number) same-sample, ap (λ (r : Sampled). r .value) same-sample)
 
 -- any two outcomes that `gong_length` is permitted, the number that it returns and the length that it writes, are equal
 module _ (factor : ℤ) (pixel : ℕ) (n q n' q' : ℕ) (this : LengthIs (sixteenths factor) (picometres pixel) (answer n q)) (that : LengthIs (sixteenths factor) (picometres pixel) (answer n' q')) where

@@ -8,6 +8,7 @@ ghost use Rattle.judge.specs.Measure.{measurement, MeasureIs};
 ghost use Rattle.threshold.specs.Histogram.{tally, CountIs};
 ghost use Rattle.numbers.specs.Fractions.{fraction};
 ghost use Rattle.threshold.specs.TwoMeans.{answered, TwoMeansIs};
+ghost use Rattle.sample.specs.Cubic.{sampled, SampleIs};
 ghost use Rattle.length.specs.Length.{answer, LengthIs};
 use units::Eighths;
 use units::Picometres;
@@ -78,6 +79,24 @@ pub extern "C" fn gong_two_means(
     *numerator = found.value.numerator;
     *denominator = found.value.denominator;
     found.number
+}
+
+// A sample: x and y in sixteenths of a pixel, value in 1/67,108,864 levels.
+#[no_mangle]
+pub extern "C" fn gong_sample(
+    levels: &[u8],
+    width: usize,
+    height: usize,
+    x: i64,
+    y: i64,
+    value: &mut i64,
+) -> u8
+    ensures { λ r. ⌜ SampleIs (now (levels .entry)) width height (sixteenths x) (sixteenths y) (sampled r (now (value .exit))) ⌝ }
+{
+    let sampled = sample::sample(levels, width, height, Sixteenths::of(x), Sixteenths::of(y));
+    let signed = sampled.value;
+    *value = signed;
+    sampled.number
 }
 
 // The length of a sharpness: factor in sixteenths of a pixel, pixel and length in picometres.

@@ -11,6 +11,7 @@ use Rattle.numbers.specs.Refusals.{Unless}
 use Rattle.numbers.proofs.Refusals.{goes-on, carried}
 use Rattle.units.specs.Units.{eighths}
 use Rattle.units.specs.declared.Eighths.{Eighths}
+use Rattle.picture.proofs.Shapes.{pixels}
 use Rattle.judge.specs.declared.Verdict.{Verdict}
 use Rattle.judge.specs.Extremes.{maximum, minimum, bright, dark}
 use Rattle.judge.specs.Noise.{spreadOf}
@@ -62,14 +63,11 @@ module _ (N : ℕ) (M m : Eighths) (D high low n : ℕ) (is-high : high ≡ M .0
 
 -- a picture's own numbers are what the judge takes, and its verdict on them is the picture's
 module _ (levels x : List ℕ) (w h : ℕ) (t : Tiled w h x) (D : ℕ) (spread-is : pos D ≡ spreadOf (w * h) levels x) (small : D ≤ 2 ^ 62) where
-  pixels : (1 ≤ w * h) × (w * h ≤ 1048576)
-  pixels = let s = t .sides in (mul-le-mul (s .0 .0) (s .1 .0), mul-le-mul (s .0 .1) (s .1 .1))
-
   taken : InRange (w * h) (bright w h x) (dark w h x) D
   taken =
       record {
-        count-low = pixels .0;
-        count-high = pixels .1;
+        count-low = let s = t .sides in mul-le-mul (s .0 .0) (s .1 .0);
+        count-high = pixels w h (t .sides);
         bright-high = tiles-most w h x maximum 2040 (maximum-most 2040) (t .small);
         dark-high = tiles-most w h x minimum 2040 (minimum-most 2040) (t .small);
         spread-high = small;

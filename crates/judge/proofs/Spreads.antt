@@ -15,7 +15,8 @@ use Rattle.numbers.specs.Sums.{sum}
 use Rattle.numbers.proofs.Order.{le-or-lt}
 use Rattle.numbers.proofs.Differences.{pos-minus, sub-pos, sub-neg}
 use Rattle.numbers.proofs.Lists.{part-at, most-take, most-drop}
-use Rattle.numbers.proofs.Sums.{sum-none, sum-more, sum-goes-on, square-of-sum, sum-natural, sum-minus}
+use Rattle.numbers.proofs.Sums.{sum-none, sum-more, sum-goes-on, square-of-sum}
+use Rattle.numbers.proofs.SignedSums.{sum-natural, sum-minus}
 use Rattle.judge.specs.Noise.{difference, spreadOf}
 use Rattle.judge.specs.Asked.{Pair, dist, light, flat, gap, Sums}
 

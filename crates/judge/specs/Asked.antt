@@ -5,7 +5,7 @@ use Prim.Native.Nat.{ℕ, _+_, _-_, _*_, _≤_}
 use lib.ListN.{length, getD, take, drop}
 use Rattle.numbers.specs.Lists.{AtMost, joined}
 use Rattle.numbers.specs.Sums.{sum}
-use Rattle.filter.specs.Filter.{Side}
+use Rattle.picture.specs.Picture.{Side}
 use Rattle.judge.specs.Measure.{ByFour}
 
 -- a filtered picture that can be cut into tiles

@@ -1,19 +1,18 @@
--- A signed number that is tested against 0 and cast to an unsigned one. The machine reads the number back from its bits, `toZ w (ofZ w z)`, which is z where z fits.
--- Assumes nothing.
+-- Signed numbers in the machine: one that is tested against 0 and cast to an unsigned one, a difference, a comparison, a product added to
+-- a sum. The machine reads a number back from its bits, `toZ w (ofZ w z)`, which is z where z fits. Assumes nothing.
 use mathlib.Core.Path.{_≡_, refl, _∙_}
 use mathlib.Core.Bool.{true, false, true≢false}
 use Prim.Native.Nat.{ℕ, _<_, _≤_, _^_}
 use native.Mathlib.Omega.{arith}
-use lib.IntN.{ℤ, pos, negsuc, natAbs, subℕ, _-ℤ_}
+use lib.IntN.{ℤ, pos, negsuc, natAbs, subℕ, _+ℤ_, _-ℤ_, _*ℤ_}
 use lib.Dec.{T}
 use lib.Signed.{ltZ, nonNeg}
 use borrow.Author.Tests.{ltb-true, ltb-false}
 use mir.Syntax.{Width, w64}
 use mir.Val.{hbits, SFits, Fits, toZ, ofZ}
 use mir.ValLaws.{toZ-ofZ, toZ-pos}
-use mathlib.Core.Logic.{⊎-elim}
-use Rattle.numbers.proofs.Order.{le-or-lt}
-use Rattle.numbers.proofs.Differences.{sub-pos, sub-neg, pos-minus}
+use Rattle.numbers.proofs.Differences.{pos-minus}
+use Rattle.numbers.proofs.Ranges.{of-diff, in-width}
 use Rattle.numbers.specs.Signed.{natOf}
 
 negative : (z : ℤ) → ltZ z (pos 0) ≡ true → 0 ≡ natOf z
@@ -45,10 +44,7 @@ module _ (w : Width) (p n : ℕ) (hp : p < 2 ^ hbits w) (hn : n < 2 ^ hbits w) w
   made = rw (toZ-pos w p hp, toZ-pos w n hn) (pos-minus p n)
 
   small : SFits w (subℕ p n)
-  small = ⊎-elim
-      (λ (h : n ≤ p). rw (sub-pos p n h) (record { sfits = omega arith }))
-      (λ (h : p < n). rw (sub-neg p n h) (record { sfits = omega arith }))
-      (le-or-lt n p)
+  small = in-width w (subℕ p n) (of-diff p n) hn hp
 
   pub diff-fits : SFits w (toZ w p -ℤ toZ w n)
   diff-fits = rw made small
@@ -63,3 +59,18 @@ module _ (w : Width) (a b : ℕ) (ha : a < 2 ^ hbits w) (hb : b < 2 ^ hbits w) w
 
   pub signed-not-less : ltZ (toZ w a) (toZ w b) ≡ false → b ≤ a
   signed-not-less e = ltb-false a b (rw (toZ-pos w a ha, toZ-pos w b hb) at e)
+
+-- a product p·q added to a sum, as the machine makes it: p, q and the sum are what it reads as x, y and s
+module _ (w : Width) {x y p q : ℤ} (is-x : x ≡ p) (is-y : y ≡ q) (room : SFits w (p *ℤ q)) where
+  pub product-fits : SFits w (x *ℤ y)
+  product-fits = rw (is-x, is-y) room
+
+  product-gives : toZ w (ofZ w (x *ℤ y)) ≡ p *ℤ q
+  product-gives = toZ-ofZ w (x *ℤ y) product-fits ∙ rw (is-x, is-y)
+
+  module _ {s sum : ℤ} (is-s : s ≡ sum) (more : SFits w (sum +ℤ p *ℤ q)) where
+    pub sum-fits : SFits w (s +ℤ toZ w (ofZ w (x *ℤ y)))
+    sum-fits = rw (product-gives, is-s) more
+
+    pub sum-gives : toZ w (ofZ w (s +ℤ toZ w (ofZ w (x *ℤ y)))) ≡ sum +ℤ p *ℤ q
+    sum-gives = toZ-ofZ w (s +ℤ toZ w (ofZ w (x *ℤ y))) sum-fits ∙ rw (product-gives, is-s)

@@ -1,13 +1,13 @@
 -- `subℕ a b`, the integer a − b of two naturals, as a way to compute with integers in ℕ: when two are equal, their sum and their product.
--- With these an equation of integers becomes one of naturals. (The noise cites sums and squares; products wait for the cubic
--- samples, whose weights are signed.) Assumes nothing.
+-- With these an equation of integers becomes one of naturals. Assumes nothing.
 use mathlib.Core.Path.{_≡_, sym, ap, subst, _∙_}
 use mathlib.Core.Logic.{⊎-elim}
 use Prim.Native.Nat.{ℕ, zero, suc, _+_, _-_, _*_, _<_, _≤_}
 use native.Mathlib.Nat.{add-mul, mul-add, sub-zero, mul-assoc}
 use native.Mathlib.Omega.{arith}
-use lib.IntN.{ℤ, pos, negsuc, negℤ, subℕ, _+ℤ_, _-ℤ_, _*ℤ_}
+use lib.IntN.{ℤ, pos, negsuc, negℤ, subℕ, _+ℤ_, _-ℤ_, _*ℤ_, +ℤ-comm}
 use borrow.Author.Tests.{lt-ltb, le-ltb}
+use Rattle.numbers.specs.Signed.{natOf}
 use Rattle.numbers.proofs.Order.{le-or-lt}
 
 pub sub-pos : (a b : ℕ) → b ≤ a → subℕ a b ≡ pos (a - b)
@@ -50,6 +50,18 @@ neg-pos (suc n) = neg-diff n
 -- the difference of two natural numbers, as it is written
 pub pos-minus : (a b : ℕ) → pos a -ℤ pos b ≡ subℕ a b
 pos-minus a b = ap (λ (z : ℤ). pos a +ℤ z) (neg-pos b) ∙ ap (λ (z : ℤ). z +ℤ subℕ 0 b) (pos-diff a) ∙ add-diff a 0 0 b ∙ same-diff (a + 0) (0 + b) a b (omega arith)
+
+-- sums and differences of natural numbers as they are written: −a + b
+pub less-plus : (a b : ℕ) → negℤ (pos a) +ℤ pos b ≡ subℕ b a
+less-plus a b = +ℤ-comm (negℤ (pos a)) (pos b) ∙ pos-minus b a
+
+-- −a + b − c
+pub less-plus-less : (a b c : ℕ) → negℤ (pos a) +ℤ pos b -ℤ pos c ≡ subℕ b (a + c)
+less-plus-less a b c = rw (less-plus a b, neg-pos c) (add-diff b a 0 c ∙ same-diff (b + 0) (a + c) b (a + c) (omega arith))
+
+-- a − b + c
+pub minus-plus : (a b c : ℕ) → pos a -ℤ pos b +ℤ pos c ≡ subℕ (a + c) b
+minus-plus a b c = rw (pos-minus a b, pos-diff c) (add-diff a b c 0 ∙ same-diff (a + c) (b + 0) (a + c) b (omega arith))
 
 -- a difference whose sign shows
 at-pos : (b x : ℕ) → subℕ (b + x) b ≡ pos x
@@ -101,8 +113,7 @@ mul-diff a b c d = go (apart a b) (apart c d)
 
 -- each integer is the difference of two naturals
 abbrev pub plus : ℤ → ℕ
-plus (pos n) = n
-plus (negsuc n) = 0
+plus z = natOf z
 
 abbrev pub minus : ℤ → ℕ
 minus (pos n) = 0

@@ -4,6 +4,8 @@ pub mod Greatest
 pub mod Differences
 pub mod Lists
 pub mod Sums
+pub mod SignedSums
+pub mod Ranges
 pub mod Casts
 pub mod Computed
 pub mod Fractions

@@ -1,6 +1,8 @@
--- Laws of the chain of refusals. Assumes nothing.
+-- Laws of the chain of refusals, and of a function that says whether something holds. Assumes nothing.
 use mathlib.Core.Path.{_≡_, sym, _∙_}
+use mathlib.Core.Bool.{Bool, true, false, not, true≢false}
 use mathlib.Core.Logic.{inl, inr}
+use borrow.Author.Tests.{not-true, not-false}
 use Rattle.numbers.specs.Refusals.{Unless}
 
 -- a call that stops here, and one that goes on
@@ -30,3 +32,12 @@ together f g (inr a) (inr b) = g (a .1) (b .1)
 pub carried : {P A B A' B' : Type 0} → (A → A') → (B → B') → Unless P A B → Unless P A' B'
 carried f g (inl a) = inl (a .0, f (a .1))
 carried f g (inr b) = inr (b .0, g (b .1))
+
+-- a function that says whether P holds: what its answer r tells a caller who asks for the contrary, as in `if !f(..)`
+pub told-no : {P : Type 0} {r : Bool} → Unless P (r ≡ false) (r ≡ true) → not r ≡ true → ¬ P
+told-no (inl out) h = out .0
+told-no {P} {r} (inr ok) h = absurd (true≢false (sym (ok .1) ∙ not-true r h))
+
+pub told-yes : {P : Type 0} {r : Bool} → Unless P (r ≡ false) (r ≡ true) → not r ≡ false → P
+told-yes {P} {r} (inl out) h = absurd (true≢false (sym (not-false r h) ∙ out .1))
+told-yes (inr ok) h = ok .0

@@ -1,15 +1,13 @@
--- Laws of sums: one number more, two sums in one, a part more, bounds, that the square of a sum is at most n times the sum of the squares,
--- and what sums of signed numbers come to. Assumes nothing.
+-- Laws of sums: one number more, two sums in one, a part more, bounds, and that the square of a sum is at most n times the sum of the
+-- squares. Assumes nothing.
 use mathlib.Core.Path.{_≡_, refl, sym}
 use mathlib.Core.Logic.{⊎-elim}
 use Prim.Native.Nat.{ℕ, zero, suc, _+_, _-_, _*_, _<_, _≤_, zero-le}
 use native.Mathlib.Nat.{add-mul, mul-add, mul-comm, suc-mul, mul-zero, zero-mul}
 use native.Mathlib.Numerals.{add-one}
 use native.Mathlib.Omega.{arith}
-use lib.IntN.{ℤ, pos, _-ℤ_}
-use Rattle.numbers.specs.Sums.{sum, sumℤ}
+use Rattle.numbers.specs.Sums.{sum}
 use Rattle.numbers.proofs.Order.{le-or-lt}
-use Rattle.numbers.proofs.Differences.{add-diff, pos-minus}
 
 pub sum-none : (f : ℕ → ℕ) → sum 0 f ≡ 0
 unfolding sum
@@ -53,6 +51,10 @@ sum-parts a (suc n) f = let e : a + suc n ≡ suc (a + n) = omega arith in rw e 
 pub sum-part : (f : ℕ → ℕ) {k n : ℕ} → k ≤ n → sum k f ≤ sum n f
 sum-part f {k} {n} in-it = let e : n ≡ k + (n - k) = omega arith in rw e (omega (arith, sum-parts k (n - k) f))
 
+-- and so is each of its numbers
+pub sum-term : (f : ℕ → ℕ) {i n : ℕ} → i < n → f i ≤ sum n f
+sum-term f {i} {n} in-it = let up-to : i + 1 ≤ n = omega arith in omega (arith, sum-part f up-to, sum-more i f)
+
 -- a sum goes on with the sum of n numbers that are the next n
 pub sum-goes-on : (a n : ℕ) (f g : ℕ → ℕ) → ((i : ℕ) → i < n → g i ≡ f (a + i)) → sum a f + sum n g ≡ sum (a + n) f
 sum-goes-on a n f g next = rw (sum-parts a n f, sum-same n g (λ i. f (a + i)) next)
@@ -94,16 +96,3 @@ module _ (f : ℕ → ℕ) where
         suc-mul n (q + f n * f n),
         mul-add n q (f n * f n),
       )
-
--- signed numbers that are natural ones have the same sum
-pub sum-natural : (n : ℕ) (z : ℕ → ℤ) (f : ℕ → ℕ) → ((i : ℕ) → z i ≡ pos (f i)) → sumℤ n z ≡ pos (sum n f)
-unfolding sum sumℤ
-sum-natural zero z f p = refl
-sum-natural (suc n) z f p = rw (sum-natural n z f p, p n)
-
--- a sum of differences is the difference of the sums
-pub sum-minus : (n : ℕ) (f g : ℕ → ℕ) → sumℤ n (λ i. pos (f i) -ℤ pos (g i)) ≡ pos (sum n f) -ℤ pos (sum n g)
-unfolding sum sumℤ
-sum-minus zero f g = refl
-sum-minus (suc n) f g =
-    rw (sum-minus n f g, pos-minus (sum n f) (sum n g), pos-minus (f n) (g n), pos-minus (sum n f + f n) (sum n g + g n)) (add-diff (sum n f) (sum n g) (f n) (g n))

@@ -1,7 +1,7 @@
 // What several crates cite: the numbers that come back (`table`), fractions, and, in specs/ and
 // proofs/, the chain of refusals, the greatest of a kind and how halving finds it, the least of a kind,
-// signed numbers beside natural ones, sums, lists, and tests that are computed. Laws are shared from
-// here; the one function is total.
+// signed numbers beside natural ones and how far they go, sums, lists, and tests that are computed.
+// Laws are shared from here; the one function is total.
 pub mod table;
 
 ghost use mathlib.Core.Path.{_≡_};

@@ -1,9 +1,9 @@
 -- Laws of counting: which values can be counted, what one value more and what two parts add to a histogram, and that its total is
 -- the number of values. Assumes nothing.
 use mathlib.Core.Path.{_≡_, refl, sym, ap, _∙_}
-use mathlib.Core.Bool.{Bool, true, false, not, cond, true≢false}
+use mathlib.Core.Bool.{true, false, cond}
 use mathlib.Core.List.{List}
-use mathlib.Core.Logic.{_≢_, inl, inr, ⊎-elim}
+use mathlib.Core.Logic.{_≢_, ⊎-elim}
 use Prim.Native.Nat.{ℕ, zero, suc, _+_, _/_, _<_, _≤_, max, zero-le}
 use native.Mathlib.Nat.{zero-add, add-assoc, le-max-left, le-max-right, max-le, le-trans, not-le-of-lt}
 use native.Mathlib.Numerals.{add-one}
@@ -12,7 +12,7 @@ use native.Mathlib.Omega.{arith}
 use lib.Dec.{eqb, leb}
 use lib.ListN.{length, getD, set, replicate, length-set, length-replicate, getD-replicate, List·getD-eq-default}
 use lib.Seq.{getD-set-same, getD-set-other}
-use borrow.Author.Tests.{not-true, not-false, eq-eqb, ne-eqb, le-leb, lt-leb}
+use borrow.Author.Tests.{eq-eqb, ne-eqb, le-leb, lt-leb}
 use Rattle.numbers.specs.Refusals.{Unless}
 use Rattle.numbers.specs.Greatest.{Least}
 use Rattle.numbers.specs.Lists.{AtMost}
@@ -61,15 +61,6 @@ countable-is values most some few l = ⊎-elim
     (λ (h : most ≤ 2040). goes-on (record { some = some; few = few; small = λ k. le-trans (l .holds k) h }) (le-leb most 2040 h))
     (λ (h : 2040 < most). stops (λ p. not-le-of-lt h (l .least 2040 (p .small))) (lt-leb most 2040 h))
     (le-or-lt most 2040)
-
--- what the test's answer r tells, where the caller asks for its contrary
-pub not-countable : (values : List ℕ) {r : Bool} → Unless (Countable values) (r ≡ false) (r ≡ true) → not r ≡ true → ¬ Countable values
-not-countable values (inl out) h = out .0
-not-countable values {r} (inr ok) h = absurd (true≢false (sym (ok .1) ∙ not-true r h))
-
-pub is-countable : (values : List ℕ) {r : Bool} → Unless (Countable values) (r ≡ false) (r ≡ true) → not r ≡ false → Countable values
-is-countable values {r} (inl out) h = absurd (true≢false (sym (not-false r h) ∙ out .1))
-is-countable values (inr ok) h = ok .0
 
 -- a value that can be counted has one of 256 levels
 level-below : (values : List ℕ) (k : ℕ) → Countable values → getD values k 0 / 8 < 256

@@ -13,7 +13,7 @@ use Rattle.numbers.specs.declared.Fraction.{Fraction}
 use Rattle.numbers.specs.Fractions.{fraction, Proper, Equal, NotMore}
 use Rattle.numbers.proofs.Fractions.{not-more-trans, either-way}
 use Rattle.threshold.specs.Histogram.{countOf}
-use Rattle.threshold.specs.TwoMeans.{level, low, high, sumOver, weight, mean, round}
+use Rattle.threshold.specs.TwoMeans.{level, low, high, sumOver, levelSum, mean, round}
 use Rattle.threshold.proofs.Picks.{Sub, beyond, beyond-is, over-in-two, over-le, over-zero, over-times, over-add}
 use Rattle.threshold.proofs.HalfSums.{half-sum-grows, low-same, high-same}
 
@@ -43,9 +43,9 @@ module _ (h : List ℕ) (p q : ℕ → Bool) (n d : ℕ) (pos : 0 < d) (below : 
   sum-under =
       omega (
         arith,
-        over-le (length h) p (λ v. weight h v * d + countOf h v) (λ v. countOf h v * n) (λ v t. omega (arith, mul-le-mul-right (countOf h v) (below v t))),
-        over-add (length h) p (λ v. weight h v * d) (countOf h),
-        over-times (length h) p (weight h) d,
+        over-le (length h) p (λ v. levelSum h v * d + countOf h v) (λ v. countOf h v * n) (λ v t. omega (arith, mul-le-mul-right (countOf h v) (below v t))),
+        over-add (length h) p (λ v. levelSum h v * d) (countOf h),
+        over-times (length h) p (levelSum h) d,
         over-times (length h) p (countOf h) n,
       )
 
@@ -53,8 +53,8 @@ module _ (h : List ℕ) (p q : ℕ → Bool) (n d : ℕ) (pos : 0 < d) (below : 
   sum-from =
       omega (
         arith,
-        over-le (length h) q (λ v. countOf h v * n) (λ v. weight h v * d) (λ v t. omega (arith, mul-le-mul-right (countOf h v) (from v t))),
-        over-times (length h) q (weight h) d,
+        over-le (length h) q (λ v. countOf h v * n) (λ v. levelSum h v * d) (λ v t. omega (arith, mul-le-mul-right (countOf h v) (from v t))),
+        over-times (length h) q (levelSum h) d,
         over-times (length h) q (countOf h) n,
       )
 
@@ -121,12 +121,12 @@ module _ (h : List ℕ) (T U : Fraction) (pT : Proper T) (pU : Proper U) (l : No
   -- both means grow with the threshold
   low-grows : NotMore (mean h (low T)) (mean h (low U))
   low-grows =
-      rw (low-parts (weight h), low-parts (countOf h))
+      rw (low-parts (levelSum h), low-parts (countOf h))
       (omega (arith, apart h (low T) above (suc (T .numerator)) (T .denominator) pT low-under above-from))
 
   high-grows : NotMore (mean h (high T)) (mean h (high U))
   high-grows =
-      rw (high-parts (weight h), high-parts (countOf h))
+      rw (high-parts (levelSum h), high-parts (countOf h))
       (omega (arith, apart h beneath (high U) (U .numerator) (U .denominator) pU beneath-under high-from))
 
   -- a round keeps the order
@@ -143,22 +143,22 @@ module _ (h : List ℕ) (T U : Fraction) (pT : Proper T) (pU : Proper U) (l : No
   same-split f z a b =
       let none-above : sumOver (length h) above f ≡ 0 = omega (arith, low-parts f) in
       let none-beneath : sumOver (length h) beneath f ≡ 0 = omega (arith, high-parts f) in
-      let weightless : (v : ℕ) → f v ≡ 0 → weight h v ≡ 0 = λ v e. rw (z v e) (omega arith) in
-      let A : lowSum h T ≡ lowSum h U = omega (arith, low-parts (weight h), over-zero (length h) above f (weight h) weightless none-above) in
+      let nothing : (v : ℕ) → f v ≡ 0 → levelSum h v ≡ 0 = λ v e. rw (z v e) (omega arith) in
+      let A : lowSum h T ≡ lowSum h U = omega (arith, low-parts (levelSum h), over-zero (length h) above f (levelSum h) nothing none-above) in
       let B : lowNumber h T ≡ lowNumber h U = omega (arith, low-parts (countOf h), over-zero (length h) above f (countOf h) z none-above) in
-      let C : highSum h T ≡ highSum h U = omega (arith, high-parts (weight h), over-zero (length h) beneath f (weight h) weightless none-beneath) in
+      let C : highSum h T ≡ highSum h U = omega (arith, high-parts (levelSum h), over-zero (length h) beneath f (levelSum h) nothing none-beneath) in
       let E : highNumber h T ≡ highNumber h U = omega (arith, high-parts (countOf h), over-zero (length h) beneath f (countOf h) z none-beneath) in
       λ i. fraction (A i * E i + C i * B i) (2 * B i * E i)
 
   -- where the means are the same, so are the numbers of levels
   low-number : 0 < lowNumber h T → Equal (mean h (low T)) (mean h (low U)) → lowNumber h T ≡ lowNumber h U
   low-number some e =
-      let same : Equal (mean h (low T)) (mean h above) = omega (arith, rw (low-parts (weight h), low-parts (countOf h)) at e) in
+      let same : Equal (mean h (low T)) (mean h above) = omega (arith, rw (low-parts (levelSum h), low-parts (countOf h)) at e) in
       omega (arith, low-parts (countOf h), none-from h (low T) above (suc (T .numerator)) (T .denominator) pT low-under above-from some same)
 
   high-number : 0 < highNumber h U → Equal (mean h (high T)) (mean h (high U)) → highNumber h T ≡ highNumber h U
   high-number some e =
-      let same : Equal (mean h beneath) (mean h (high U)) = omega (arith, rw (high-parts (weight h), high-parts (countOf h)) at e) in
+      let same : Equal (mean h beneath) (mean h (high U)) = omega (arith, rw (high-parts (levelSum h), high-parts (countOf h)) at e) in
       omega (arith, high-parts (countOf h), none-under h beneath (high U) (U .numerator) (U .denominator) pU beneath-under high-from some same)
 
   -- a round gives equal thresholds as equal pairs: in order

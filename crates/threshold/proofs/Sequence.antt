@@ -16,7 +16,7 @@ use Rattle.numbers.specs.Fractions.{Proper, Equal, NotMore}
 use Rattle.numbers.proofs.Sums.{sum-most}
 use Rattle.numbers.proofs.Fractions.{not-more-trans, either-way}
 use Rattle.threshold.specs.Histogram.{countOf, total}
-use Rattle.threshold.specs.TwoMeans.{level, lowest, highest, nearest, start, low, high, sumOver, weight, round, Within, Rests, threshold}
+use Rattle.threshold.specs.TwoMeans.{level, lowest, highest, nearest, start, low, high, sumOver, levelSum, round, Within, Rests, threshold}
 use Rattle.threshold.specs.TwoMeans.{round, Rests, threshold}
 use Rattle.threshold.proofs.Present.{lowest-is, highest-is, lowest-below, highest-below}
 use Rattle.threshold.proofs.Picks.{over-part, over-has, over-le, over-times}
@@ -108,20 +108,20 @@ where-some (suc c) x y l = mul-le-mul-right (suc c) (l (omega arith))
 
 module _ (h : List ℕ) (some : 0 < total h) where
   -- what is picked sums up to at least the lowest level each, and at most the highest
-  lowest-each : (p : ℕ → Bool) → sumOver (length h) p (countOf h) * lowest h ≤ sumOver (length h) p (weight h)
+  lowest-each : (p : ℕ → Bool) → sumOver (length h) p (countOf h) * lowest h ≤ sumOver (length h) p (levelSum h)
   lowest-each p =
       omega (
         arith,
-        over-le (length h) p (λ v. countOf h v * lowest h) (weight h)
+        over-le (length h) p (λ v. countOf h v * lowest h) (levelSum h)
             (λ v t. omega (arith, where-some (countOf h v) (lowest h) v (lowest-is h some .least v))),
         over-times (length h) p (countOf h) (lowest h),
       )
 
-  highest-each : (p : ℕ → Bool) → sumOver (length h) p (weight h) ≤ sumOver (length h) p (countOf h) * highest h
+  highest-each : (p : ℕ → Bool) → sumOver (length h) p (levelSum h) ≤ sumOver (length h) p (countOf h) * highest h
   highest-each p =
       omega (
         arith,
-        over-le (length h) p (weight h) (λ v. countOf h v * highest h)
+        over-le (length h) p (levelSum h) (λ v. countOf h v * highest h)
             (λ v t. omega (arith, where-some (countOf h v) v (highest h) (highest-is h some .most v))),
         over-times (length h) p (countOf h) (highest h),
       )

@@ -16,7 +16,7 @@ use Rattle.numbers.specs.Fractions.{fraction, Proper}
 use Rattle.numbers.proofs.Lists.{Written, written-none, written-more}
 use Rattle.numbers.proofs.Sums.{sum-none, sum-more, sum-most, sum-same, sum-part}
 use Rattle.threshold.specs.Histogram.{countOf, total}
-use Rattle.threshold.specs.TwoMeans.{highest, low, high, sumOver, weight, round, Within}
+use Rattle.threshold.specs.TwoMeans.{highest, low, high, sumOver, levelSum, round, Within}
 use Rattle.threshold.specs.Asked.{Filled, Tables, Small}
 use Rattle.threshold.proofs.Present.{highest-below}
 use Rattle.threshold.proofs.Picks.{over-rest, over-part}
@@ -33,14 +33,14 @@ sum-of-levels (suc n) f = omega (arith, sum-of-levels n f, suc-mul n (sum n f + 
 pub record Filling (h : List ℕ) (v : ℕ) (counted summed : List ℕ) (number added : ℕ) : Type 0 where
   pub filled : Filled h v counted summed
   pub number-is : number ≡ sum v (countOf h)
-  pub added-is : added ≡ sum v (weight h)
+  pub added-is : added ≡ sum v (levelSum h)
 
 -- what stands at place v of either
 abbrev numberBelow : List ℕ → ℕ → ℕ
 numberBelow h v = sum v (countOf h)
 
 abbrev sumBelow : List ℕ → ℕ → ℕ
-sumBelow h v = sum v (weight h)
+sumBelow h v = sum v (levelSum h)
 
 -- the places of a table up to v are written
 abbrev Table : (ℕ → ℕ) → List ℕ → List ℕ → ℕ → Type 0
@@ -68,7 +68,7 @@ module _ {h counted summed : List ℕ} {v : ℕ} (f : Filled h v counted summed)
 pub filling-none : (h counted summed : List ℕ) → length counted ≡ length h + 1 → length summed ≡ length h + 1 → Filling h 0 (set counted 0 0) (set summed 0 0) 0 0
 filling-none h counted summed long-counted long-summed =
     let number-is : 0 ≡ numberBelow h 0 = sym (sum-none (countOf h)) in
-    let added-is : 0 ≡ sumBelow h 0 = sym (sum-none (weight h)) in
+    let added-is : 0 ≡ sumBelow h 0 = sym (sum-none (levelSum h)) in
     record {
       filled =
           right-up-to
@@ -80,11 +80,11 @@ filling-none h counted summed long-counted long-summed =
 
 module _ {h counted summed : List ℕ} {v number added : ℕ} (so-far : Filling h v counted summed number added) where
   -- one level more
-  pub filling-more : v < length h → let number' = number + countOf h v in let added' = added + weight h v in
+  pub filling-more : v < length h → let number' = number + countOf h v in let added' = added + levelSum h v in
       Filling h (v + 1) (set counted (v + 1) number') (set summed (v + 1) added') number' added'
   filling-more turn =
       let number-is : number + countOf h v ≡ numberBelow h (v + 1) = omega (arith, so-far .number-is, sum-more v (countOf h)) in
-      let added-is : added + weight h v ≡ sumBelow h (v + 1) = omega (arith, so-far .added-is, sum-more v (weight h)) in
+      let added-is : added + levelSum h v ≡ sumBelow h (v + 1) = omega (arith, so-far .added-is, sum-more v (levelSum h)) in
       record {
         filled =
             right-up-to
@@ -103,13 +103,13 @@ module _ {h counted summed : List ℕ} {v number added : ℕ} (so-far : Filling 
     pub number-room : number + countOf h v ≤ 8796093020160
     number-room = omega (arith, so-far .number-is, sum-most 4294967295 v (countOf h) counts, counts v)
 
-    pub weight-room : weight h v ≤ 8796093020160
-    weight-room = omega (arith, mul-le-mul {n₁ = v} {n₂ = 2048} (omega arith) (counts v))
+    pub level-sum-room : levelSum h v ≤ 8796093020160
+    level-sum-room = omega (arith, mul-le-mul {n₁ = v} {n₂ = 2048} (omega arith) (counts v))
 
-    pub added-room : added + weight h v ≤ 18014398505287680
+    pub added-room : added + levelSum h v ≤ 18014398505287680
     added-room =
         let most : sum v (countOf h) ≤ 8796093020160 = omega (arith, sum-most 4294967295 v (countOf h) counts) in
-        omega (arith, so-far .added-is, sum-of-levels v (countOf h), mul-le-mul {n₁ = v} {n₂ = 2047} (omega arith) most, weight-room)
+        omega (arith, so-far .added-is, sum-of-levels v (countOf h), mul-le-mul {n₁ = v} {n₂ = 2047} (omega arith) most, level-sum-room)
 
 -- ---- reading
 -- a test that picks the levels below k
@@ -214,7 +214,7 @@ module _ {h : List ℕ} (small : Small h) {k : ℕ} (in-it : k ≤ length h) whe
   unfolding total
   number-small = le-trans (sum-part (countOf h) in-it) (small .values)
 
-  sum-small : sum k (weight h) ≤ 2147483648
+  sum-small : sum k (levelSum h) ≤ 2147483648
   sum-small = omega (arith, sum-of-levels k (countOf h), mul-le-mul {n₁ = k} {n₂ = 2048} (omega (arith, small .levels)) number-small)
 
 -- A, B, C, E of a round, and that what is made of them fits 64 bits
@@ -240,7 +240,7 @@ ReadFrom h counted summed T from =
 module _ {h counted summed : List ℕ} (tables : Tables h counted summed) {T : Fraction} {from : ℕ} (at : Places h T from) where
   -- nothing is taken from less
   pub summed-in : getD summed from 0 ≤ getD summed (length h) 0
-  summed-in = omega (arith, high-read (weight h) h summed (tables .summed-is) at)
+  summed-in = omega (arith, high-read (levelSum h) h summed (tables .summed-is) at)
 
   pub counted-in : getD counted from 0 ≤ getD counted (length h) 0
   counted-in = omega (arith, high-read (countOf h) h counted (tables .counted-is) at)
@@ -255,9 +255,9 @@ module _ {h counted summed : List ℕ} (tables : Tables h counted summed) {T : F
       let c-small : getD summed n 0 - getD summed from 0 ≤ 2147483648 = omega (arith, tables .summed-is n all, sum-small small all) in
       let e-small : getD counted n 0 - getD counted from 0 ≤ 1048576 = omega (arith, tables .counted-is n all, number-small small all) in
       record {
-        a-is = low-read (weight h) h summed (tables .summed-is) at;
+        a-is = low-read (levelSum h) h summed (tables .summed-is) at;
         b-is = low-read (countOf h) h counted (tables .counted-is) at;
-        c-is = omega (arith, high-read (weight h) h summed (tables .summed-is) at);
+        c-is = omega (arith, high-read (levelSum h) h summed (tables .summed-is) at);
         e-is = omega (arith, high-read (countOf h) h counted (tables .counted-is) at);
         b-small = b-small;
         ae-small = mul-le-mul a-small e-small;

@@ -7,7 +7,7 @@ use lib.Dec.{eqb}
 use lib.ListN.{length, getD}
 use Rattle.numbers.specs.Sums.{sum}
 use Rattle.threshold.specs.Histogram.{countOf, total}
-use Rattle.threshold.specs.TwoMeans.{weight}
+use Rattle.threshold.specs.TwoMeans.{levelSum}
 
 -- what n of the values, from place a on, add at level v
 unfoldable pub addedFrom : List ℕ → ℕ → ℕ → ℕ → ℕ
@@ -23,7 +23,7 @@ pub record Filled (h : List ℕ) (n : ℕ) (counted summed : List ℕ) : Type 0 
   pub counted-long : length counted ≡ length h + 1
   pub summed-long : length summed ≡ length h + 1
   pub counted-is : (v : ℕ) → v ≤ n → getD counted v 0 ≡ sum v (countOf h)
-  pub summed-is : (v : ℕ) → v ≤ n → getD summed v 0 ≡ sum v (weight h)
+  pub summed-is : (v : ℕ) → v ≤ n → getD summed v 0 ≡ sum v (levelSum h)
 
 -- both tables are right at all places
 abbrev pub Tables : List ℕ → List ℕ → List ℕ → Type 0

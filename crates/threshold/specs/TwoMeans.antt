@@ -48,12 +48,12 @@ unfoldable pub sumOver : ℕ → (ℕ → Bool) → (ℕ → ℕ) → ℕ
 sumOver n picked f = sum n (λ v. cond (picked v) (f v) 0)
 
 -- what a level adds to the sum of the levels: itself, as often as it was counted
-abbrev pub weight : List ℕ → ℕ → ℕ
-weight h v = v * countOf h v
+abbrev pub levelSum : List ℕ → ℕ → ℕ
+levelSum h v = v * countOf h v
 
 -- "the mean" of the levels that are picked: "the sum and number of levels" as a fraction
 abbrev pub mean : List ℕ → (ℕ → Bool) → Fraction
-mean h picked = fraction (sumOver (length h) picked (weight h)) (sumOver (length h) picked (countOf h))
+mean h picked = fraction (sumOver (length h) picked (levelSum h)) (sumOver (length h) picked (countOf h))
 
 -- "half the sum" of A/B and C/E: "numerator A·E + C·B, denominator 2·B·E, not reduced"
 abbrev pub halfSum : Fraction → Fraction → Fraction

@@ -6,7 +6,7 @@ use borrow.Author.Needs.{needs}
 use denote.Ref.{now}
 use lib.ListN.{length, take}
 use lib.Seq.{length-take-le}
-use Rattle.filter.proofs.Parts.{pixels}
+use Rattle.picture.proofs.Shapes.{pixels}
 use Rattle.filter.proofs.Outcomes.{Fits, fits, refused, done}
 use Rattle.filter.proofs.filter.Statement.{statement}
 use Rattle.filter.proofs.filter.Tie as tie

@@ -1,44 +1,34 @@
--- `sizes` meets its contract: each test is one number's condition, in the order of the table. Assumes nothing.
+-- `sizes` meets its contract: the picture's shape decides 1 and 2, and each test after it is one number's condition, in the order of
+-- the table. Assumes nothing.
 use mathlib.Core.Path.{refl}
 use native.Mathlib.Omega.{arith}
+use borrow.Author.Needs.{needs}
 use Rattle.numbers.proofs.Refusals.{stops, goes-on}
-use Rattle.filter.specs.Filter.{Side}
-use Rattle.filter.proofs.Parts.{pixels}
+use Rattle.picture.proofs.Shapes.{WellShaped, well-shaped, misshapen, pixels}
 use Rattle.filter.proofs.sizes.Statement.{statement}
 use Rattle.filter.proofs.sizes.Tie as tie
 
+shape-requires : tie.Need-shape-requires
+shape-requires c κs = search needs
+
 returns : tie.Need-returns
-returns c = stops (λ ok. omega arith) refl
+returns c = let a = c .before .before .args in misshapen (a .levels) (a .width) (a .height) (c .before .shape .result) (c .if1 .taken) (λ n is. is) (c .before .shape .ensures)
 
-returns-2 : tie.Need-returns-2
-returns-2 c = stops (λ ok. omega arith) refl
-
-returns-3 : tie.Need-returns-3
-returns-3 c = stops (λ ok. omega arith) refl
-
-returns-4 : tie.Need-returns-4
-returns-4 c = stops (λ ok. omega arith) refl
-
--- past the first four tests both sides are in range
-sides : (c : tie.Else4) → let a = c .before .before .before .before .args in Side (a .width) × Side (a .height)
-sides c = ((omega arith, omega arith), (omega arith, omega arith))
+-- past the first test the picture is well shaped
+fit : (c : tie.Else1) → let a = c .before .before .args in WellShaped (a .levels) (a .width) (a .height)
+fit c = well-shaped _ _ _ (c .before .shape .result) (omega arith) (c .before .shape .ensures)
 
 mul-n : tie.Need-mul-n
-mul-n c = omega (arith, pixels (c .before .before .before .before .args .width) (c .before .before .before .before .args .height) (sides c))
+mul-n c = let a = c .before .before .args in omega (arith, pixels (a .width) (a .height) (fit c .sides))
 
-returns-5 : tie.Need-returns-5
-returns-5 c = goes-on (sides (c .before)) (stops (λ ok. omega arith) refl)
+returns-2 : tie.Need-returns-2
+returns-2 c = let f = fit (c .before) in goes-on (f .sides) (goes-on (f .all-levels) (stops (λ ok. omega arith) refl))
 
-returns-6 : tie.Need-returns-6
-returns-6 c = goes-on (sides (c .before .before)) (goes-on (omega arith) (stops (λ ok. omega arith) refl))
+returns-3 : tie.Need-returns-3
+returns-3 c = let f = fit (c .before .before) in goes-on (f .sides) (goes-on (f .all-levels) (goes-on (omega arith) (stops (λ ok. omega arith) refl)))
 
-returns-7 : tie.Need-returns-7
-returns-7 c = goes-on (sides (c .before .before .before)) (goes-on (omega arith) (goes-on (omega arith) (stops (λ ok. omega arith) refl)))
-
-returns-8 : tie.Need-returns-8
-returns-8 c = goes-on (sides (c .before .before .before)) (goes-on (omega arith) (goes-on (omega arith) (goes-on (omega arith) refl)))
+returns-4 : tie.Need-returns-4
+returns-4 c = let f = fit (c .before .before) in goes-on (f .sides) (goes-on (f .all-levels) (goes-on (omega arith) (goes-on (omega arith) refl)))
 
 pub sizes-spec : {M : Type 1} → statement M
-sizes-spec =
-    tie.close
-    (tie.spec returns returns-2 returns-3 returns-4 mul-n returns-5 returns-6 returns-7 returns-8)
+sizes-spec = tie.close (tie.spec shape-requires returns mul-n returns-2 returns-3 returns-4)

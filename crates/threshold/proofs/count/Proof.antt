@@ -2,9 +2,9 @@
 use mathlib.Core.Path.{refl}
 use borrow.Author.Needs.{needs}
 use denote.Ref.{now}
-use Rattle.numbers.proofs.Refusals.{stops, goes-on}
+use Rattle.numbers.proofs.Refusals.{stops, goes-on, told-no, told-yes}
 use Rattle.threshold.specs.Histogram.{Countable}
-use Rattle.threshold.proofs.Histograms.{not-countable, is-countable, count-done}
+use Rattle.threshold.proofs.Histograms.{count-done}
 use Rattle.threshold.proofs.count.Statement.{statement}
 use Rattle.threshold.proofs.count.Tie as tie
 
@@ -15,13 +15,11 @@ countable-requires : tie.Need-countable-requires
 countable-requires c κs = search needs
 
 returns-2 : tie.Need-returns-2
-returns-2 c =
-    let values = now (c .before .before .before .before .before .args .values) in
-    goes-on (c .before .before .if1 .left) (stops (not-countable values (c .before .countable .ensures) (c .if2 .taken)) refl)
+returns-2 c = goes-on (c .before .before .if1 .left) (stops (told-no (c .before .countable .ensures) (c .if2 .taken)) refl)
 
 -- past the second test the values can be counted
 passed : (c : tie.Else2) → Countable (now (c .before .before .before .before .before .args .values))
-passed c = is-countable (now (c .before .before .before .before .before .args .values)) (c .before .countable .ensures) (c .if2 .left)
+passed c = told-yes (c .before .countable .ensures) (c .if2 .left)
 
 counted-requires : tie.Need-counted-requires
 counted-requires c κs = passed c

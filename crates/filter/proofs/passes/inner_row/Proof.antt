@@ -9,7 +9,8 @@ use lib.ListN.{length, take, drop}
 use native.Mathlib.Nat.{mul-le-mul-right, one-mul, suc-mul}
 use Rattle.filter.specs.Asked.{Row}
 use Rattle.numbers.proofs.Order.{row-end}
-use Rattle.filter.proofs.Parts.{pixels, part-row, inner-is}
+use Rattle.picture.proofs.Shapes.{pixels}
+use Rattle.filter.proofs.Parts.{part-row, inner-is}
 use Rattle.filter.proofs.passes.inner_row.Statement.{statement}
 use Rattle.filter.proofs.passes.inner_row.Tie as tie
 

@@ -9,7 +9,8 @@ use borrow.Rule.Slice.PartMut.{same-len-mid}
 use Rattle.numbers.specs.Lists.{joined}
 use Rattle.filter.specs.Median.{passRow}
 use Rattle.numbers.proofs.Order.{row-end}
-use Rattle.filter.proofs.Parts.{pixels, last-start, row-more, next-row}
+use Rattle.picture.proofs.Shapes.{pixels}
+use Rattle.filter.proofs.Parts.{last-start, row-more, next-row}
 use Rattle.filter.proofs.passes.inner_rows.Statement.{statement}
 use Rattle.filter.proofs.passes.inner_rows.Tie as tie
 

@@ -2,7 +2,7 @@
 use Prim.Native.Nat.{_-_, _≤_}
 use native.Mathlib.Omega.{arith}
 use lib.ListN.{length}
-use Rattle.threshold.proofs.Tables.{Filling, filling-none, filling-more, filling-all, number-room, weight-room, added-room}
+use Rattle.threshold.proofs.Tables.{Filling, filling-none, filling-more, filling-all, number-room, level-sum-room, added-room}
 use Rattle.threshold.proofs.means.fill.Statement.{statement}
 use Rattle.threshold.proofs.means.fill.Tie as tie
 
@@ -38,7 +38,7 @@ add-number c =
 mul-sum : tie.Need-mul-sum Inv-loop μ-loop
 mul-sum c =
     let turn = c .before .before in
-    omega (arith, weight-room (turn .loop .inv .1) (λ k. omega (arith, c .shared-slice-known .given k)) (turn .before .pre .0) (c .before .loop-test .taken))
+    omega (arith, level-sum-room (turn .loop .inv .1) (λ k. omega (arith, c .shared-slice-known .given k)) (turn .before .pre .0) (c .before .loop-test .taken))
 
 add-sum : tie.Need-add-sum Inv-loop μ-loop
 add-sum c =
