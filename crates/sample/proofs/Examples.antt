@@ -1,47 +1,85 @@
--- The definition at places that one can work by hand (document 01, "What a student can work by hand"), where columns and rows
--- are not alike, at the ends of the range, and at the borders. antt computes both sides of each comparison. Assumes nothing.
-use mathlib.Core.Path.{_≡_, refl, sym, ap}
+-- What a student can work by hand (document 01), as one table, which antt computes: the marked place; places where columns and rows
+-- are not alike; both ends of the range; the borders; and the numbers 1 and 2. Assumes nothing.
+use mathlib.Core.Path.{_≡_, ap}
+use mathlib.Core.Bool.{Bool, true, false}
 use mathlib.Core.List.{List, [], _∷_}
+use mathlib.Core.Logic.{Dec·and}
+use mathlib.Core.Option.{Option, none, some, Option·map, get}
 use Prim.Native.Nat.{ℕ, _*_}
-use lib.Dec.{T, leb, leb→le, eqb, eqb→eq}
+use native.Mathlib.Decide.{decLe, ℕ-discrete}
+use lib.Dec.{T}
 use lib.ListN.{length}
 use lib.IntN.{ℤ, pos, negsuc, negℤ, _-ℤ_}
-use lib.Signed.{leZ, leZ-yes}
+use lib.Signed.{_≤ℤ_, leZ}
 use Rattle.numbers.specs.Sums.{sumℤ}
-use Rattle.numbers.proofs.Refusals.{stops, goes-on}
+use Rattle.numbers.proofs.Computed.{when, unless}
 use Rattle.picture.specs.Picture.{Side}
 use Rattle.units.specs.Units.{sixteenths}
-use Rattle.units.specs.declared.Sixteenths.{Sixteenths}
 use Rattle.sample.specs.declared.Sampled.{Sampled}
-use Rattle.sample.specs.Cubic.{weight, sampleOf, pixel, Inside, sampleAt, sampled, refused, SampleIs}
+use Rattle.sample.specs.Cubic.{weight, sampleOf, pixel, Inside, sampleAt, sampled, SampleIs}
 use Rattle.sample.proofs.Outcomes.{one-sample}
 
--- the picture has its shape: five tests that antt computes
-abbrev pub Shape : List ℕ → ℕ → ℕ → Type 0
-Shape levels w h = T (leb 1 w) × T (leb w 1024) × T (leb 1 h) × T (leb h 1024) × T (eqb (length levels) (w * h))
+-- ---- a row of the table: a picture, a place, and what comes back
+pub record Row : Type 0 where
+  pub levels : List ℕ
+  pub width : ℕ
+  pub height : ℕ
+  pub x : ℤ
+  pub y : ℤ
+  pub number : ℕ
+  pub value : ℤ
 
--- a place is inside along a side: two tests
-abbrev pub In : ℕ → Sixteenths → Type 0
-In side x = T (leZ (pos 1) (pixel x)) × T (leZ (pixel x) (pos side -ℤ pos 3))
+abbrev row : List ℕ → ℕ → ℕ → ℤ → ℤ → ℕ → ℤ → Row
+row l w h a b n v = record { levels = l; width = w; height = h; x = a; y = b; number = n; value = v }
 
-module _ (levels : List ℕ) (w h : ℕ) (x y : Sixteenths) (shape : Shape levels w h) where
-  sides : Side w × Side h
-  sides = ((leb→le 1 w (shape .0), leb→le w 1024 (shape .1)), (leb→le 1 h (shape .2), leb→le h 1024 (shape .3)))
+-- ---- that the promise permits the row, as Cubic.antt says it
+ordered : (a b : ℤ) → Dec (a ≤ℤ b)
+ordered a b = go (leZ a b) (λ t. record { le = t }) (λ h. h .le)
+  where
+    go : {P : Type 0} (t : Bool) → (T t → P) → (P → T t) → Dec P
+    go true f g = yes (f tt)
+    go false f g = no g
 
-  all-levels : length levels ≡ w * h
-  all-levels = eqb→eq (length levels) (w * h) (shape .4)
+same : (v u : ℤ) → Option (v ≡ u)
+same (pos a) (pos b) = Option·map (ap pos) (when (ℕ-discrete a b))
+same (pos a) (negsuc b) = none
+same (negsuc a) (pos b) = none
+same (negsuc a) (negsuc b) = Option·map (ap negsuc) (when (ℕ-discrete a b))
 
-  -- where it is inside both ways, the sample is the answer, and nothing else is
-  pub only : (v : ℤ) → In w x → In h y → sampleAt levels w x y ≡ v → (r : Sampled) → SampleIs levels w h x y r → r ≡ sampled 0 v
-  only v across down value r is =
-      one-sample levels w h x y r (sampled 0 v) is
-      (goes-on sides (goes-on all-levels (goes-on ((leZ-yes (across .0), leZ-yes (across .1)), (leZ-yes (down .0), leZ-yes (down .1))) (ap (sampled 0) (sym value)))))
+side : (n : ℕ) → Dec (Side n)
+side n = Dec·and (decLe 1 n) (decLe n 1024)
 
-  -- where it is not, 13 is
-  pub never : (¬ (Inside w (pixel x) × Inside h (pixel y))) → (r : Sampled) → SampleIs levels w h x y r → r ≡ refused 13
-  never outside r is = one-sample levels w h x y r (refused 13) is (goes-on sides (goes-on all-levels (stops outside refl)))
+inside : (n : ℕ) (i : ℤ) → Dec (Inside n i)
+inside n i = Dec·and (ordered (pos 1) i) (ordered i (pos n -ℤ pos 3))
 
--- "Four columns 0 0 255 255, four rows, both remainders 8: 8,556,380,160 (127.5 levels) at i = j = 1."
+back : (n : ℕ) (v : ℤ) (k : ℕ) (u : ℤ) → Option (sampled n v ≡ sampled k u)
+back n v k u = elim (when (ℕ-discrete n k)) [
+  | some e ↦ Option·map (λ f i. sampled (e i) (f i)) (same v u)
+  | none ↦ none
+]
+
+permitted : (l : List ℕ) (w h : ℕ) (x y : ℤ) (n : ℕ) (v : ℤ) → Option (SampleIs l w h (sixteenths x) (sixteenths y) (sampled n v))
+permitted l w h x y n v =
+    unless (Dec·and (side w) (side h)) (back n v 1 (pos 0))
+    (unless (ℕ-discrete (length l) (w * h)) (back n v 2 (pos 0))
+    (unless (Dec·and (inside w (pixel (sixteenths x))) (inside h (pixel (sixteenths y)))) (back n v 13 (pos 0))
+    (back n v 0 (sampleAt l w (sixteenths x) (sixteenths y)))))
+
+-- every row of a table holds: its place in its picture has the row's number and value, and no other
+abbrev pub Hold : List Row → Type 0
+Hold [] = Unit {0}
+Hold (r ∷ l) =
+    ((s : Sampled) → SampleIs (r .levels) (r .width) (r .height) (sixteenths (r .x)) (sixteenths (r .y)) s → s ≡ sampled (r .number) (r .value)) × Hold l
+
+every : (l : List Row) → Option (Hold l)
+every [] = some tt
+every (r ∷ l) = elim (permitted (r .levels) (r .width) (r .height) (r .x) (r .y) (r .number) (r .value)) [
+  | some p ↦ Option·map (λ rest. (λ s is. one-sample (r .levels) (r .width) (r .height) (sixteenths (r .x)) (sixteenths (r .y)) s (sampled (r .number) (r .value)) is p, rest)) (every l)
+  | none ↦ none
+]
+
+-- ---- the pictures
+-- "Four columns 0 0 255 255, four rows"
 abbrev pub step : List ℕ
 step =
     0 ∷ 0 ∷ 255 ∷ 255 ∷
@@ -49,61 +87,51 @@ step =
     0 ∷ 0 ∷ 255 ∷ 255 ∷
     0 ∷ 0 ∷ 255 ∷ 255 ∷ []
 
-pub marked : (r : Sampled) → SampleIs step 4 4 (sixteenths (pos 24)) (sixteenths (pos 24)) r → r ≡ sampled 0 (pos 8556380160)
-unfolding sampleOf sumℤ weight
-marked = only step 4 4 (sixteenths (pos 24)) (sixteenths (pos 24)) (tt, tt, tt, tt, tt) (pos 8556380160) (tt, tt) (tt, tt) refl
-
--- five columns and four rows, where no exchange of the two leaves anything alone: column 2 and 11 sixteenths, row 1 and 3 sixteenths
-abbrev pub levels : List ℕ
-levels =
+-- five columns and four rows, where no exchange of the two leaves anything alone
+abbrev pub odd : List ℕ
+odd =
     9 ∷ 40 ∷ 7 ∷ 200 ∷ 3 ∷
     120 ∷ 60 ∷ 90 ∷ 255 ∷ 0 ∷
     30 ∷ 10 ∷ 80 ∷ 5 ∷ 250 ∷
     100 ∷ 17 ∷ 44 ∷ 99 ∷ 1 ∷ []
 
-pub five-by-four : (r : Sampled) → SampleIs levels 5 4 (sixteenths (pos 43)) (sixteenths (pos 19)) r → r ≡ sampled 0 (pos 13569783279)
-unfolding sampleOf sumℤ weight
-five-by-four = only levels 5 4 (sixteenths (pos 43)) (sixteenths (pos 19)) (tt, tt, tt, tt, tt) (pos 13569783279) (tt, tt) (tt, tt) refl
-
--- with the remainders exchanged
-pub remainders-exchanged : (r : Sampled) → SampleIs levels 5 4 (sixteenths (pos 35)) (sixteenths (pos 27)) r → r ≡ sampled 0 (pos 5867775855)
-unfolding sampleOf sumℤ weight
-remainders-exchanged = only levels 5 4 (sixteenths (pos 35)) (sixteenths (pos 27)) (tt, tt, tt, tt, tt) (pos 5867775855) (tt, tt) (tt, tt) refl
-
--- the range is no narrower: with both remainders 8, bright where the product of the weights is positive, and dark where it is not
-abbrev pub corners : List ℕ
-corners =
+-- where both remainders are 8: bright where the product of the two weights is positive; and the other way round
+abbrev pub brightest : List ℕ
+brightest =
     255 ∷ 0 ∷ 0 ∷ 255 ∷
     0 ∷ 255 ∷ 255 ∷ 0 ∷
     0 ∷ 255 ∷ 255 ∷ 0 ∷
     255 ∷ 0 ∷ 0 ∷ 255 ∷ []
 
-pub most : (r : Sampled) → SampleIs corners 4 4 (sixteenths (pos 24)) (sixteenths (pos 24)) r → r ≡ sampled 0 (pos 21925724160)
-unfolding sampleOf sumℤ weight
-most = only corners 4 4 (sixteenths (pos 24)) (sixteenths (pos 24)) (tt, tt, tt, tt, tt) (pos 21925724160) (tt, tt) (tt, tt) refl
-
--- and the other way round
-abbrev pub edges : List ℕ
-edges =
+abbrev pub darkest : List ℕ
+darkest =
     0 ∷ 255 ∷ 255 ∷ 0 ∷
     255 ∷ 0 ∷ 0 ∷ 255 ∷
     255 ∷ 0 ∷ 0 ∷ 255 ∷
     0 ∷ 255 ∷ 255 ∷ 0 ∷ []
 
-pub least : (r : Sampled) → SampleIs edges 4 4 (sixteenths (pos 24)) (sixteenths (pos 24)) r → r ≡ sampled 0 (negℤ (pos 4812963840))
-unfolding sampleOf sumℤ weight
-least = only edges 4 4 (sixteenths (pos 24)) (sixteenths (pos 24)) (tt, tt, tt, tt, tt) (negℤ (pos 4812963840)) (tt, tt) (tt, tt) refl
+-- Picture, width, height, x and y, then the number and the value. "both remainders 8: 8,556,380,160 (127.5 levels) at i = j = 1"; two
+-- remainders, and the two exchanged; a pixel's own level, 90; both ends of the range; the last place that has a sample; a place past
+-- each of the four borders, and farther; a side of 0; and too few levels, which comes before 13
+abbrev pub table : List Row
+table =
+    row step 4 4 (pos 24) (pos 24) 0 (pos 8556380160)
+    ∷ row odd 5 4 (pos 43) (pos 19) 0 (pos 13569783279)
+    ∷ row odd 5 4 (pos 35) (pos 27) 0 (pos 5867775855)
+    ∷ row odd 5 4 (pos 32) (pos 16) 0 (pos 6039797760)
+    ∷ row brightest 4 4 (pos 24) (pos 24) 0 (pos 21925724160)
+    ∷ row darkest 4 4 (pos 24) (pos 24) 0 (negℤ (pos 4812963840))
+    ∷ row odd 5 4 (pos 47) (pos 31) 0 (pos 533960175)
+    ∷ row odd 5 4 (pos 48) (pos 31) 13 (pos 0)
+    ∷ row odd 5 4 (pos 47) (pos 32) 13 (pos 0)
+    ∷ row odd 5 4 (pos 15) (pos 16) 13 (pos 0)
+    ∷ row odd 5 4 (pos 16) (pos 15) 13 (pos 0)
+    ∷ row odd 5 4 (negℤ (pos 1)) (pos 16) 13 (pos 0)
+    ∷ row odd 5 4 (pos 9223372036854775807) (negℤ (pos 9223372036854775808)) 13 (pos 0)
+    ∷ row odd 5 0 (pos 43) (pos 19) 1 (pos 0)
+    ∷ row odd 5 5 (pos 48) (pos 19) 2 (pos 0)
+    ∷ []
 
--- the last x of five columns that has a sample is 47, and 48 is outside; so is y = 32 of four rows, and what is left of the picture
-pub last-place : (r : Sampled) → SampleIs levels 5 4 (sixteenths (pos 47)) (sixteenths (pos 16)) r → r ≡ sampled 0 (pos 17178255360)
-unfolding sampleOf sumℤ weight
-last-place = only levels 5 4 (sixteenths (pos 47)) (sixteenths (pos 16)) (tt, tt, tt, tt, tt) (pos 17178255360) (tt, tt) (tt, tt) refl
-
-pub too-far : (r : Sampled) → SampleIs levels 5 4 (sixteenths (pos 48)) (sixteenths (pos 16)) r → r ≡ refused 13
-too-far = never levels 5 4 (sixteenths (pos 48)) (sixteenths (pos 16)) (tt, tt, tt, tt, tt) (λ ok. absurd (ok .0 .1 .le))
-
-pub left-of-it : (r : Sampled) → SampleIs levels 5 4 (sixteenths (negsuc 0)) (sixteenths (pos 16)) r → r ≡ refused 13
-left-of-it = never levels 5 4 (sixteenths (negsuc 0)) (sixteenths (pos 16)) (tt, tt, tt, tt, tt) (λ ok. absurd (ok .0 .0 .le))
-
-pub too-low : (r : Sampled) → SampleIs levels 5 4 (sixteenths (pos 16)) (sixteenths (pos 32)) r → r ≡ refused 13
-too-low = never levels 5 4 (sixteenths (pos 16)) (sixteenths (pos 32)) (tt, tt, tt, tt, tt) (λ ok. absurd (ok .1 .1 .le))
+pub worked : Hold table
+unfolding decLe ℕ-discrete Dec·and when unless ordered same side inside back permitted every sampleOf sumℤ weight
+worked = get (every table) tt
