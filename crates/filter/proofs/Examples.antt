@@ -4,6 +4,7 @@ use mathlib.Core.Path.{_≡_, refl}
 use mathlib.Core.List.{List, [], _∷_}
 use Prim.Native.Nat.{ℕ}
 use Rattle.numbers.specs.Lists.{joined}
+use Rattle.numbers.proofs.Computed.{EveryRow}
 use Rattle.filter.specs.Median.{near, block, insert, insertAll, sorted, twiceMedian, rowOf, passRow, pass}
 use Rattle.filter.specs.Filter.{halves, quarters, eighths}
 
@@ -31,11 +32,10 @@ table =
     ∷ case eighths 3 2 (0 ∷ 9 ∷ 1 ∷ 0 ∷ 7 ∷ 2 ∷ []) (24 ∷ 24 ∷ 26 ∷ 24 ∷ 24 ∷ 26 ∷ [])
     ∷ []
 
--- every row of the table holds
-abbrev pub Hold : List Case → Type 0
-Hold [] = Unit {0}
-Hold (c ∷ l) = (c .passes (c .width) (c .height) (c .levels) ≡ c .expected) × Hold l
+-- the passes give what the row says
+abbrev pub Holds : Case → Type 0
+Holds c = c .passes (c .width) (c .height) (c .levels) ≡ c .expected
 
-pub worked : Hold table
+pub worked : EveryRow Holds table
 unfolding near block insert insertAll sorted twiceMedian joined rowOf passRow pass halves quarters eighths
 worked = (refl, (refl, (refl, (refl, (refl, (refl, (refl, tt)))))))

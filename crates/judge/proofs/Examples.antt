@@ -3,14 +3,14 @@
 use mathlib.Core.Path.{_≡_, refl}
 use mathlib.Core.List.{List, [], _∷_}
 use mathlib.Core.Logic.{inl, Dec·and, Dec·not}
-use mathlib.Core.Option.{Option, none, some, Option·map, get}
+use mathlib.Core.Option.{Option, none, Option·map, get}
 use Prim.Native.Nat.{ℕ, _+_, _-_, _*_, _^_}
 use native.Mathlib.Nat.{not-le-of-lt}
 use native.Mathlib.Decide.{decLe, decLt, ℕ-discrete}
 use Rattle.numbers.specs.Lists.{joined}
 use Rattle.numbers.specs.Sums.{sum}
 use Rattle.numbers.proofs.Greatest.{by-neighbours}
-use Rattle.numbers.proofs.Computed.{when, unless}
+use Rattle.numbers.proofs.Computed.{when, unless, EveryRow, every-row}
 use Rattle.units.specs.Units.{eighths}
 use Rattle.judge.specs.declared.Verdict.{Verdict}
 use Rattle.judge.specs.Extremes.{maximum, minimum, tile, overTiles}
@@ -63,18 +63,14 @@ module _ (N M m D n q : ℕ) where
       (unless (Dec·not (ℕ-discrete D 0)) (back 8)
       rated)))
 
--- every row of a table holds: what the row gives to the judge has the row's verdict, and no other
-abbrev pub Hold : List Row → Type 0
-Hold [] = Unit {0}
-Hold (r ∷ l) =
-    ((v : Verdict) → JudgeIs (r .count) (eighths (r .bright)) (eighths (r .dark)) (r .spread) v → v ≡ verdict (r .number) (r .ratio)) × Hold l
+-- what a row gives to the judge has the row's verdict, and no other
+abbrev pub Holds : Row → Type 0
+Holds r = (v : Verdict) → JudgeIs (r .count) (eighths (r .bright)) (eighths (r .dark)) (r .spread) v → v ≡ verdict (r .number) (r .ratio)
 
-every : (l : List Row) → Option (Hold l)
-every [] = some tt
-every (r ∷ l) = elim (permitted (r .count) (r .bright) (r .dark) (r .spread) (r .number) (r .ratio)) [
-  | some p ↦ Option·map (λ rest. (λ v is. one-verdict (r .count) (eighths (r .bright)) (eighths (r .dark)) (r .spread) v (verdict (r .number) (r .ratio)) is p, rest)) (every l)
-  | none ↦ none
-]
+holds : (r : Row) → Option (Holds r)
+holds r =
+    Option·map (λ p v is. one-verdict (r .count) (eighths (r .bright)) (eighths (r .dark)) (r .spread) v (verdict (r .number) (r .ratio)) is p)
+    (permitted (r .count) (r .bright) (r .dark) (r .spread) (r .number) (r .ratio))
 
 -- N, M, m and D, then the number and q: the document's four; one that comes out otherwise where products wrap at 64 bits; both ends of the range of M, and of that of m, each with the number
 -- past it; no noise; and 15, which comes before 6
@@ -97,9 +93,9 @@ table =
     ∷ row 256 32641 6400 419430400 15 0
     ∷ []
 
-pub worked : Hold table
-unfolding decLe decLt ℕ-discrete Dec·and Dec·not when unless in-range back rated permitted every
-worked = get (every table) tt
+pub worked : EveryRow Holds table
+unfolding decLe decLt ℕ-discrete Dec·and Dec·not when unless in-range back rated permitted holds every-row
+worked = get (every-row Holds holds table) tt
 
 -- ---- tiles: 1 to 32, row by row, as a picture 8 wide and 4 high, and as one 4 wide and 8 high
 abbrev pub values : List ℕ

@@ -1,7 +1,8 @@
--- A proof of what is written, where antt finds it by comparing numbers; and a test of every number below n, computed at once. Assumes
--- nothing.
+-- A proof of what is written, where antt finds it by comparing numbers; of every row of a table; and a test of every number below n,
+-- computed at once. Assumes nothing.
 use mathlib.Core.Path.{_≡_, sym, subst}
 use mathlib.Core.Bool.{Bool, true, false, _&&_}
+use mathlib.Core.List.{List, [], _∷_}
 use mathlib.Core.Logic.{⊎-elim}
 use Prim.Native.Nat.{ℕ, zero, suc, _<_}
 use native.Mathlib.Nat.{le-of-suc-le-suc, eq-or-lt-of-le}
@@ -20,6 +21,18 @@ when (no f) = none
 unfoldable pub unless : {P A B : Type 0} → Dec P → Option A → Option B → Option (Unless P A B)
 unless (yes p) a b = Option·map (goes-on p) b
 unless (no f) a b = Option·map (stops f) a
+
+-- every row of a table holds; and a proof of that, where each row has one
+abbrev pub EveryRow : {A : Type 0} → (A → Type 0) → List A → Type 0
+EveryRow Holds [] = Unit {0}
+EveryRow Holds (r ∷ l) = Holds r × EveryRow Holds l
+
+unfoldable pub every-row : {A : Type 0} (Holds : A → Type 0) → ((r : A) → Option (Holds r)) → (l : List A) → Option (EveryRow Holds l)
+every-row Holds holds [] = some tt
+every-row Holds holds (r ∷ l) = elim (holds r) [
+  | some p ↦ Option·map (λ rest. (p, rest)) (every-row Holds holds l)
+  | none ↦ none
+]
 
 -- a test of every number below n, computed at once
 abbrev pub every : (ℕ → Bool) → ℕ → Bool

@@ -11,6 +11,7 @@ use mir.Syntax.{Width}
 use mir.Val.{hbits, SFits}
 use Rattle.numbers.specs.Sums.{sum, sumℤ}
 use Rattle.numbers.proofs.Order.{le-or-lt}
+use Rattle.numbers.proofs.SignedSums.{sumℤ-more}
 use Rattle.numbers.proofs.Differences.{sub-pos, sub-neg, add-diff, mul-diff, plus, minus, as-diff}
 
 -- z lies from −below to above
@@ -77,3 +78,7 @@ of-sums (suc n) f g z p = of-sum (sumℤ n z) (z n) (of-sums n f g z (λ i l. p 
 pub in-width : (w : Width) {a b : ℕ} (z : ℤ) → Ranges a b z → a < 2 ^ hbits w → b < 2 ^ hbits w → SFits w z
 in-width w (pos n) r p q = record { sfits = omega (arith, r .high) }
 in-width w (negsuc n) r p q = record { sfits = omega (arith, r .low) }
+
+-- and so has a sum with one number more
+pub next-in-width : (w : Width) {a b : ℕ} (z : ℕ → ℤ) (n : ℕ) → Ranges a b (sumℤ (n + 1) z) → a < 2 ^ hbits w → b < 2 ^ hbits w → SFits w (sumℤ n z +ℤ z n)
+next-in-width w z n r p q = rw (← sumℤ-more n z) (in-width w (sumℤ (n + 1) z) r p q)

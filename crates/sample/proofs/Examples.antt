@@ -12,7 +12,7 @@ use lib.ListN.{length}
 use lib.IntN.{ℤ, pos, negsuc, negℤ, _-ℤ_}
 use lib.Signed.{_≤ℤ_, leZ}
 use Rattle.numbers.specs.Sums.{sumℤ}
-use Rattle.numbers.proofs.Computed.{when, unless}
+use Rattle.numbers.proofs.Computed.{when, unless, EveryRow, every-row}
 use Rattle.picture.specs.Picture.{Side}
 use Rattle.units.specs.Units.{sixteenths}
 use Rattle.sample.specs.declared.Sampled.{Sampled}
@@ -65,18 +65,14 @@ permitted l w h x y n v =
     (unless (Dec·and (inside w (pixel (sixteenths x))) (inside h (pixel (sixteenths y)))) (back n v 13 (pos 0))
     (back n v 0 (sampleAt l w (sixteenths x) (sixteenths y)))))
 
--- every row of a table holds: its place in its picture has the row's number and value, and no other
-abbrev pub Hold : List Row → Type 0
-Hold [] = Unit {0}
-Hold (r ∷ l) =
-    ((s : Sampled) → SampleIs (r .levels) (r .width) (r .height) (sixteenths (r .x)) (sixteenths (r .y)) s → s ≡ sampled (r .number) (r .value)) × Hold l
+-- its place in its picture has the row's number and value, and no other
+abbrev pub Holds : Row → Type 0
+Holds r = (s : Sampled) → SampleIs (r .levels) (r .width) (r .height) (sixteenths (r .x)) (sixteenths (r .y)) s → s ≡ sampled (r .number) (r .value)
 
-every : (l : List Row) → Option (Hold l)
-every [] = some tt
-every (r ∷ l) = elim (permitted (r .levels) (r .width) (r .height) (r .x) (r .y) (r .number) (r .value)) [
-  | some p ↦ Option·map (λ rest. (λ s is. one-sample (r .levels) (r .width) (r .height) (sixteenths (r .x)) (sixteenths (r .y)) s (sampled (r .number) (r .value)) is p, rest)) (every l)
-  | none ↦ none
-]
+holds : (r : Row) → Option (Holds r)
+holds r =
+    Option·map (λ p s is. one-sample (r .levels) (r .width) (r .height) (sixteenths (r .x)) (sixteenths (r .y)) s (sampled (r .number) (r .value)) is p)
+    (permitted (r .levels) (r .width) (r .height) (r .x) (r .y) (r .number) (r .value))
 
 -- ---- the pictures
 -- "Four columns 0 0 255 255, four rows"
@@ -132,6 +128,6 @@ table =
     ∷ row odd 5 5 (pos 48) (pos 19) 2 (pos 0)
     ∷ []
 
-pub worked : Hold table
-unfolding decLe ℕ-discrete Dec·and when unless ordered same side inside back permitted every sampleOf sumℤ weight
-worked = get (every table) tt
+pub worked : EveryRow Holds table
+unfolding decLe ℕ-discrete Dec·and when unless ordered same side inside back permitted holds every-row sampleOf sumℤ weight
+worked = get (every-row Holds holds table) tt

@@ -12,8 +12,7 @@ use Rattle.numbers.specs.Lists.{AtMost}
 use Rattle.numbers.specs.Sums.{sum, sumℤ}
 use Rattle.numbers.proofs.Differences.{plus, minus}
 use Rattle.numbers.proofs.Sums.{sum-part, sum-term}
-use Rattle.numbers.proofs.Ranges.{Ranges, widened, of-natural, of-product, of-sums, in-width}
-use Rattle.numbers.proofs.SignedSums.{sumℤ-more}
+use Rattle.numbers.proofs.Ranges.{Ranges, widened, of-natural, of-product, of-sums, in-width, next-in-width}
 use Rattle.numbers.proofs.Computed.{every, each}
 use Rattle.sample.specs.Cubic.{weight}
 use Rattle.sample.specs.Asked.{columnTerm, rowSum, rowStart, rowTerm}
@@ -88,7 +87,7 @@ module _ (levels : List ℕ) (bytes : AtMost 255 levels) where
     column-fits t in-it = in-width w64 (columnTerm levels at k t) (column-term-range t in-it) (lit< tt) (lit< tt)
 
     pub columns-fit : (t : ℕ) → t < 4 → SFits w64 (sumℤ t (columnTerm levels at k) +ℤ columnTerm levels at k t)
-    columns-fit t in-it = rw (← sumℤ-more t (columnTerm levels at k)) (in-width w64 (sumℤ (t + 1) (columnTerm levels at k)) (columns-range (t + 1) (omega arith)) (lit< tt) (lit< tt))
+    columns-fit t in-it = next-in-width w64 (columnTerm levels at k) t (columns-range (t + 1) (omega arith)) (lit< tt) (lit< tt)
 
   -- a sample's terms, and its sums
   module _ (w i j across down : ℕ) (small-across : across < 16) (small-down : down < 16) where
@@ -108,4 +107,4 @@ module _ (levels : List ℕ) (bytes : AtMost 255 levels) where
     row-fits r in-it = in-width w64 (rowTerm levels w i j across down r) (row-term-range r in-it) (lit< tt) (lit< tt)
 
     pub rows-fit : (r : ℕ) → r < 4 → SFits w64 (sumℤ r (rowTerm levels w i j across down) +ℤ rowTerm levels w i j across down r)
-    rows-fit r in-it = rw (← sumℤ-more r (rowTerm levels w i j across down)) (in-width w64 (sumℤ (r + 1) (rowTerm levels w i j across down)) (rows-range (r + 1) (omega arith)) (lit< tt) (lit< tt))
+    rows-fit r in-it = next-in-width w64 (rowTerm levels w i j across down) r (rows-range (r + 1) (omega arith)) (lit< tt) (lit< tt)

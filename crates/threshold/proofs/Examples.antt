@@ -3,7 +3,7 @@
 use mathlib.Core.Path.{_≡_, refl, sym, subst}
 use mathlib.Core.List.{List, [], _∷_}
 use mathlib.Core.Logic.{Dec·and, Dec·not}
-use mathlib.Core.Option.{Option, none, some, Option·map, get}
+use mathlib.Core.Option.{Option, none, some, get}
 use Prim.Native.Nat.{ℕ, suc, _+_, _≤_, zero-le}
 use native.Mathlib.Nat.{pos-of-ne-zero, zero-add}
 use native.Mathlib.Decide.{decLe, ℕ-discrete}
@@ -16,7 +16,7 @@ use Rattle.numbers.specs.Fractions.{fraction}
 use Rattle.numbers.proofs.Greatest.{not-yet}
 use Rattle.numbers.proofs.Fractions.{one-pair-or-not}
 use Rattle.numbers.proofs.Refusals.{goes-on}
-use Rattle.numbers.proofs.Computed.{when}
+use Rattle.numbers.proofs.Computed.{when, EveryRow, every-row}
 use Rattle.threshold.specs.declared.Threshold.{Threshold}
 use Rattle.threshold.specs.Histogram.{total}
 use Rattle.threshold.specs.TwoMeans.{level, start, sumOver, round, Rests, threshold, Settled, answered, Done, TwoMeansIs}
@@ -91,17 +91,12 @@ module _ (h : List ℕ) (v : ℕ) (l : List Fraction) (U : Fraction) where
     | no f ↦ none
   ]
 
--- every row of a table holds
-abbrev pub Hold : List Row → Type 0
-Hold [] = Unit {0}
-Hold (r ∷ l) = Holds (histogram (r .counts)) (r .start-at) (r .on-the-way) (r .answer) × Hold l
+-- the same of a row of the table
+abbrev pub RowHolds : Row → Type 0
+RowHolds r = Holds (histogram (r .counts)) (r .start-at) (r .on-the-way) (r .answer)
 
-every : (l : List Row) → Option (Hold l)
-every [] = some tt
-every (r ∷ l) = elim (holds (histogram (r .counts)) (r .start-at) (r .on-the-way) (r .answer)) [
-  | some p ↦ Option·map (λ rest. (p, rest)) (every l)
-  | none ↦ none
-]
+row-holds : (r : Row) → Option (RowHolds r)
+row-holds r = holds (histogram (r .counts)) (r .start-at) (r .on-the-way) (r .answer)
 
 -- the document's three, the histogram of its picture of all 40, and two of docs/why-it-rests.md
 abbrev pub table : List Row
@@ -114,9 +109,9 @@ table =
     ∷ row ((68, 1) ∷ (128, 18) ∷ (130, 3) ∷ (188, 1) ∷ []) 128 (fraction 106942 836 ∷ fraction 4378 44 ∷ []) (fraction 4378 44)
     ∷ []
 
-pub worked : Hold table
-unfolding decLe ℕ-discrete Dec·and Dec·not sum sumOver total start round within-or-not rests-or-not one-pair-or-not walks taken holds every
-worked = get (every table) tt
+pub worked : EveryRow RowHolds table
+unfolding decLe ℕ-discrete Dec·and Dec·not sum sumOver total start round within-or-not rests-or-not one-pair-or-not walks taken holds row-holds every-row
+worked = get (every-row RowHolds row-holds table) tt
 
 -- "though 121 and 135 rest too"
 pub also-rest : Rests (histogram ((100, 1) ∷ (128, 1) ∷ (156, 1) ∷ [])) (level 121) × Rests (histogram ((100, 1) ∷ (128, 1) ∷ (156, 1) ∷ [])) (level 135)
