@@ -8,15 +8,14 @@ use lib.Dec.{lit≤}
 use lib.ListN.{length, drop}
 use Rattle.numbers.proofs.Refusals.{goes-on, past, alike, carried, together}
 use Rattle.numbers.specs.Lists.{AtMost}
-use Rattle.picture.specs.Picture.{Side}
+use Rattle.picture.proofs.Shapes.{WellShaped, passes-both}
 use Rattle.filter.specs.Filter.{quarters, eighths, Sized, Outcome, outcome, Filtered, FilterIs}
 use Rattle.filter.proofs.Ranges.{most-eighths}
 use Rattle.filter.proofs.Drawn.{length-eighths}
 
 -- sizes that none of 1 to 4 refuses
 pub record Fits (levels w h output work : ℕ) : Type 0 where
-  pub sides : Side w × Side h
-  pub all-levels : levels ≡ w * h
+  pub shape : WellShaped levels w h
   pub long-output : w * h ≤ output
   pub long-work : w * h ≤ work
 
@@ -26,7 +25,7 @@ settled levels w h output work refused past (inl a) = inl (1, lit≤ tt, a .1)
 settled levels w h output work refused past (inr (s, inl a)) = inl (2, lit≤ tt, a .1)
 settled levels w h output work refused past (inr (s, inr (l, inl a))) = inl (3, lit≤ tt, a .1)
 settled levels w h output work refused past (inr (s, inr (l, inr (o, inl a)))) = inl (4, lit≤ tt, a .1)
-settled levels w h output work refused past (inr (s, inr (l, inr (o, inr (k, d))))) = inr (record { sides = s; all-levels = l; long-output = o; long-work = k }, d)
+settled levels w h output work refused past (inr (s, inr (l, inr (o, inr (k, d))))) = inr (record { shape = record { sides = s; all-levels = l }; long-output = o; long-work = k }, d)
 
 -- where the number is 0, all are
 pub fits : (levels w h output work r : ℕ) → r ≡ 0 → Sized levels w h output work (λ n. r ≡ n) (r ≡ 0) → Fits levels w h output work
@@ -49,18 +48,18 @@ module _ (levels : List ℕ) (w h : ℕ) (output work : List ℕ) where
   pub done : (x y : List ℕ) → AtMost 255 levels → Fits (length levels) w h (length output) (length work) → x ≡ eighths w h levels → y ≡ quarters w h levels
       → FilterIs levels w h output work (outcome 0 (x ++ drop (w * h) output) (y ++ drop (w * h) work))
   done x y small f three two =
-      goes-on (f .sides) (goes-on (f .all-levels) (goes-on (f .long-output) (goes-on (f .long-work)
+      passes-both (f .shape) (goes-on (f .long-output) (goes-on (f .long-work)
       (record {
         number = refl;
         pass-three = ap (λ (l : List ℕ). l ++ drop (w * h) output) three;
         pass-two = ap (λ (l : List ℕ). l ++ drop (w * h) work) two;
-        long = length-eighths w h levels (f .all-levels);
+        long = length-eighths w h levels (f .shape .all-levels);
         most = most-eighths w h levels small;
-      }))))
+      })))
 
   -- what a caller knows who has made sure of the sizes
   pub when-fits : (r : Outcome) → Fits (length levels) w h (length output) (length work) → FilterIs levels w h output work r → Filtered levels w h output work r
-  when-fits r f d = past (f .long-work) (past (f .long-output) (past (f .all-levels) (past (f .sides) d)))
+  when-fits r f d = past (f .long-work) (past (f .long-output) (past (f .shape .all-levels) (past (f .shape .sides) d)))
 
   -- what a caller reads off the number: 0 says that the sizes fit and the picture is filtered
   pub when-done : (r : Outcome) → r .number ≡ 0 → FilterIs levels w h output work r → Fits (length levels) w h (length output) (length work) × Filtered levels w h output work r

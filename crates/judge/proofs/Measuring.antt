@@ -7,6 +7,7 @@ use lib.Seq.{take-at}
 use Rattle.numbers.specs.Refusals.{Unless}
 use Rattle.numbers.proofs.Refusals.{stops, goes-on, carried}
 use Rattle.filter.specs.Filter.{eighths, Sized, outcome, Filtered, FilterIs}
+use Rattle.picture.proofs.Shapes.{passes-both}
 use Rattle.filter.proofs.Outcomes.{Fits, when-fits}
 use Rattle.judge.specs.declared.Verdict.{Verdict}
 use Rattle.judge.specs.Judge.{refused}
@@ -25,7 +26,7 @@ module _ (levels : List ℕ) (w h : ℕ) (output work : List ℕ) where
   module _ (f : Fits (length levels) w h (length output) (length work)) where
     -- past the sizes
     fitting : (r : Measurement) → Unless (ByFour w h) (r ≡ measurement (refused 5) output work) (Measured levels w h output work r) → MeasureIs levels w h output work r
-    fitting r rest = goes-on (f .sides) (goes-on (f .all-levels) (goes-on (f .long-output) (goes-on (f .long-work) rest)))
+    fitting r rest = passes-both (f .shape) (goes-on (f .long-output) (goes-on (f .long-work) rest))
 
     -- a side that is no multiple of 4
     pub refused-by-five : (v : Verdict) → ¬ ByFour w h → v ≡ refused 5 → MeasureIs levels w h output work (measurement v output work)
@@ -40,7 +41,7 @@ module _ (levels : List ℕ) (w h : ℕ) (output work : List ℕ) where
       starts = ap (take (w * h)) (filtered .pass-three) ∙ take-at (eighths w h levels) (drop (w * h) output) (w * h) (filtered .long)
 
       pub tiled : Tiled w h (take (w * h) output')
-      tiled = rw starts (record { sides = f .sides; by-four = fours; whole = filtered .long; small = filtered .most })
+      tiled = rw starts (record { sides = f .shape .sides; by-four = fours; whole = filtered .long; small = filtered .most })
 
       pub done : (v : Verdict) → Judged levels (take (w * h) output') w h v → MeasureIs levels w h output work (measurement v output' work')
       done v j = fitting (measurement v output' work') (goes-on fours (record { filtered = rw (filtered .number) at filtered; judged = rw starts at j }))

@@ -2,7 +2,7 @@
 use mathlib.Core.Path.{_≡_, refl, sym, ap, _∙_}
 use mathlib.Core.List.{List, foldl, foldl-append}
 use Prim.Native.Nat.{ℕ, zero, suc, _+_, _-_, _*_, _/_, _≤_, _<_, min, max}
-use native.Mathlib.Nat.{mul-le-mul, mul-le-mul-right, add-mul}
+use native.Mathlib.Nat.{mul-le-mul-right, add-mul}
 use native.Mathlib.Numerals.{add-one}
 use native.Mathlib.Omega.{arith}
 use lib.ListN.{length, take, drop, length-take, length-drop, length-append}
@@ -10,6 +10,7 @@ use Rattle.numbers.specs.Lists.{AtMost, joined}
 use Rattle.numbers.specs.Sums.{sum}
 use Rattle.numbers.proofs.Lists.{most-take, most-drop, most-joined, joined-same}
 use Rattle.numbers.proofs.Sums.{sum-none, sum-more, sum-most}
+use Rattle.picture.proofs.Shapes.{pixels}
 use Rattle.judge.specs.Extremes.{maximum, minimum, tile, overTiles}
 use Rattle.judge.specs.Asked.{Part, Band, part, bandOf, Tiled}
 use Rattle.judge.proofs.Maxima.{maximum-is, minimum-is}
@@ -179,7 +180,7 @@ module _ (w h : ℕ) (x : List ℕ) where
         four = omega arith;
         row-long = sides .0 .1;
         inside = omega (arith, mul-le-mul-right w l, add-mul (b * (h / 4)) (h / 4) w, t .whole);
-        long = rw (t .whole) (mul-le-mul (sides .0 .1) (sides .1 .1));
+        long = rw (t .whole) (pixels w h sides);
       }
 
   -- the sums over sixteen tiles are at most sixteen times what every value is

@@ -4,7 +4,8 @@ use mathlib.Core.Logic.{inl, inr}
 use Prim.Native.Nat.{ℕ, _*_, _≤_}
 use native.Mathlib.Nat.{mul-le-mul}
 use native.Mathlib.Omega.{arith}
-use Rattle.numbers.proofs.Refusals.{alike, together, carried}
+use Rattle.numbers.specs.Refusals.{Unless}
+use Rattle.numbers.proofs.Refusals.{goes-on, alike, together, carried}
 use Rattle.picture.specs.Picture.{Side, Shaped}
 
 -- a picture has at most 1,048,576 pixels
@@ -15,6 +16,10 @@ pixels w h s = mul-le-mul (s .0 .1) (s .1 .1)
 pub record WellShaped (levels w h : ℕ) : Type 0 where
   pub sides : Side w × Side h
   pub all-levels : levels ≡ w * h
+
+-- a call on it goes on past both
+pub passes-both : {levels w h : ℕ} {A B C : Type 0} → WellShaped levels w h → C → Unless (Side w × Side h) A (Unless (levels ≡ w * h) B C)
+passes-both s rest = goes-on (s .sides) (goes-on (s .all-levels) rest)
 
 module _ (levels w h r : ℕ) where
   -- where the number is 0, neither does

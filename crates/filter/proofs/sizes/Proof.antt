@@ -4,7 +4,7 @@ use mathlib.Core.Path.{refl}
 use native.Mathlib.Omega.{arith}
 use borrow.Author.Needs.{needs}
 use Rattle.numbers.proofs.Refusals.{stops, goes-on}
-use Rattle.picture.proofs.Shapes.{WellShaped, well-shaped, misshapen, pixels}
+use Rattle.picture.proofs.Shapes.{WellShaped, passes-both, well-shaped, misshapen, pixels}
 use Rattle.filter.proofs.sizes.Statement.{statement}
 use Rattle.filter.proofs.sizes.Tie as tie
 
@@ -22,13 +22,13 @@ mul-n : tie.Need-mul-n
 mul-n c = let a = c .before .before .args in omega (arith, pixels (a .width) (a .height) (fit c .sides))
 
 returns-2 : tie.Need-returns-2
-returns-2 c = let f = fit (c .before) in goes-on (f .sides) (goes-on (f .all-levels) (stops (λ ok. omega arith) refl))
+returns-2 c = passes-both (fit (c .before)) (stops (λ ok. omega arith) refl)
 
 returns-3 : tie.Need-returns-3
-returns-3 c = let f = fit (c .before .before) in goes-on (f .sides) (goes-on (f .all-levels) (goes-on (omega arith) (stops (λ ok. omega arith) refl)))
+returns-3 c = passes-both (fit (c .before .before)) (goes-on (omega arith) (stops (λ ok. omega arith) refl))
 
 returns-4 : tie.Need-returns-4
-returns-4 c = let f = fit (c .before .before) in goes-on (f .sides) (goes-on (f .all-levels) (goes-on (omega arith) (goes-on (omega arith) refl)))
+returns-4 c = passes-both (fit (c .before .before)) (goes-on (omega arith) (goes-on (omega arith) refl))
 
 pub sizes-spec : {M : Type 1} → statement M
 sizes-spec = tie.close (tie.spec shape-requires returns mul-n returns-2 returns-3 returns-4)

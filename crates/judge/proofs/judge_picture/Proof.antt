@@ -1,8 +1,8 @@
 -- `judge::judge_picture` meets its contract: the judge is given the picture's own numbers. Assumes nothing.
 use mathlib.Core.Path.{sym, _∙_}
-use native.Mathlib.Nat.{mul-le-mul}
 use borrow.Author.Needs.{needs}
 use denote.Ref.{now}
+use Rattle.picture.proofs.Shapes.{pixels}
 use Rattle.judge.proofs.Judging.{judged}
 use Rattle.judge.proofs.judge_picture.Statement.{statement}
 use Rattle.judge.proofs.judge_picture.Tie as tie
@@ -14,7 +14,7 @@ spread-requires : tie.Need-spread-requires
 spread-requires c κs =
     let p = c .before .before .before .pre in
     let t = p .0 in
-    record { same = p .1 ∙ sym (t .whole); long = rw (t .whole) (mul-le-mul (t .sides .0 .1) (t .sides .1 .1)); small = t .small }
+    record { same = p .1 ∙ sym (t .whole); long = rw (t .whole) (pixels _ _ (t .sides)); small = t .small }
 
 judge-requires : tie.Need-judge-requires
 judge-requires c κs = search needs

@@ -3,12 +3,12 @@
 use mathlib.Core.Path.{sym}
 use mathlib.Core.List.{List}
 use Prim.Native.Nat.{ℕ, _*_, _≤_}
-use native.Mathlib.Nat.{mul-le-mul}
 use native.Mathlib.Omega.{arith}
 use borrow.Author.Needs.{needs}
 use denote.Ref.{now}
 use lib.ListN.{length}
 use lib.Seq.{length-take-le}
+use Rattle.picture.proofs.Shapes.{pixels}
 use Rattle.filter.proofs.Outcomes.{Fits, fits}
 use Rattle.judge.specs.Measure.{ByFour}
 use Rattle.judge.proofs.Measuring.{refused-for-sizes, refused-by-five, tiled, done}
@@ -82,7 +82,7 @@ module _ (c : tie.After-slice-known4) where
   long = rw (called .filter .kept .1 .1 .1 .0) (fit-here .long-output)
 
 mul-n : tie.Need-mul-n
-mul-n c = let s = fit-here c .sides in omega (arith, mul-le-mul (s .0 .1) (s .1 .1))
+mul-n c = omega (arith, pixels (width c) (height c) (fit-here c .shape .sides))
 
 slice-reshare-prefix-judge-picture : tie.Need-slice-reshare-prefix-judge-picture
 slice-reshare-prefix-judge-picture c = long c
@@ -95,7 +95,7 @@ judge-picture-requires c κs =
     let d = c .before in
     let a = start d .args in
     let g = called d .filter in
-    (tiled (now (a .levels)) (a .width) (a .height) (now (a .output)) (now (a .work)) (fit-here d) (fours d) (g .result) (output d) (g .last .1 .1 .1 .1 .0) (g .ensures), fit-here d .all-levels)
+    (tiled (now (a .levels)) (a .width) (a .height) (now (a .output)) (now (a .work)) (fit-here d) (fours d) (g .result) (output d) (g .last .1 .1 .1 .1 .0) (g .ensures), fit-here d .shape .all-levels)
 
 same-length : tie.Need-same-length
 same-length c = search needs

@@ -7,7 +7,7 @@ use lib.ListN.{length}
 use mir.Syntax.{w64}
 use mir.ValLaws.{toZ-ofZ}
 use Rattle.numbers.proofs.Refusals.{stops, goes-on, told-no, told-yes}
-use Rattle.picture.proofs.Shapes.{WellShaped, well-shaped, misshapen, pixels}
+use Rattle.picture.proofs.Shapes.{WellShaped, passes-both, well-shaped, misshapen, pixels}
 use Rattle.sample.specs.declared.Coordinate.{Coordinate}
 use Rattle.sample.specs.Cubic.{sampled, refused}
 use Rattle.sample.specs.Asked.{Surrounded, Around}
@@ -51,7 +51,7 @@ returns-2 c =
     let e = t .before .before .before in
     let a = e .before .before .before .args in
     let not-surrounded = told-no (t .surrounded .ensures) (c .before .if2 .taken) in
-    goes-on (fit e .sides) (goes-on (fit e .all-levels) (stops (λ in-it. outside (a .x) _ (t .before .before .locate .ensures) (a .width) not-surrounded (in-it .0)) (c .refuse2 .ensures)))
+    passes-both (fit e) (stops (λ in-it. outside (a .x) _ (t .before .before .locate .ensures) (a .width) not-surrounded (in-it .0)) (c .refuse2 .ensures))
 
 surrounded-requires-2 : tie.Need-surrounded-requires-2
 surrounded-requires-2 c κs = search needs
@@ -67,7 +67,7 @@ returns-3 c =
     let e = l .before .before in
     let a = e .before .before .before .args in
     let not-surrounded = told-no (t .surrounded2 .ensures) (c .before .if3 .taken) in
-    goes-on (fit e .sides) (goes-on (fit e .all-levels) (stops (λ in-it. outside (a .y) _ (l .locate2 .ensures) (a .height) not-surrounded (in-it .1)) (c .refuse3 .ensures)))
+    passes-both (fit e) (stops (λ in-it. outside (a .y) _ (l .locate2 .ensures) (a .height) not-surrounded (in-it .1)) (c .refuse3 .ensures))
 
 -- past the last test the 4×4 levels are in the picture
 module _ (c : tie.Else3) where
@@ -104,11 +104,10 @@ returns-4 : tie.Need-returns-4
 returns-4 c =
     let e = c .before in
     let a = began e .args in
-    let f = fit (shaped e) in
     let at-x = placed e .before .locate .ensures in
     let at-y = placed e .locate2 .ensures in
-    goes-on (f .sides) (goes-on (f .all-levels) (goes-on (is-inside (a .x) (column e) at-x (a .width) (in-column e), is-inside (a .y) (row e) at-y (a .height) (in-row e))
-    (ap (sampled 0) (is-sample (now (a .levels)) (a .x) (a .y) (column e) (row e) at-x at-y (in-column e) (in-row e) (rw (toZ-ofZ w64 (c .around .result) (record { sfits = c .around .ok })) (c .around .ensures))))))
+    passes-both (fit (shaped e)) (goes-on (is-inside (a .x) (column e) at-x (a .width) (in-column e), is-inside (a .y) (row e) at-y (a .height) (in-row e))
+    (ap (sampled 0) (is-sample (now (a .levels)) (a .x) (a .y) (column e) (row e) at-x at-y (in-column e) (in-row e) (rw (toZ-ofZ w64 (c .around .result) (record { sfits = c .around .ok })) (c .around .ensures)))))
 
 pub sample-spec : {M : Type 1} → statement M
 sample-spec =
