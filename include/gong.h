@@ -47,7 +47,7 @@ extern "C" {
 #endif
 
 /* The numbers that come back: when each is given, exactly, and what the call leaves in lent
- * buffers. 16 to 18 are of the program gongspindle, which is still to come: the table does not move. */
+ * buffers. What to do about each: docs/numbers.md. 16 to 18 are of the program gongspindle alone. */
 enum gong_number {
     GONG_DONE = 0,                 /* done; buffers as the call says                                     */
     GONG_SIDE_OUT_OF_RANGE = 1,    /* width or height outside 1..1,024; nothing written                  */

@@ -3,7 +3,8 @@
 These are typed from the document ("What a student can work by hand") and not computed: they hold
 this second program to the paper, as the comparison holds the first program to this one. (One is
 worked out from a sentence: a sample on a pixel is the pixel's own level.)
-Each row: the call, its arguments, what comes back.
+Each row: the call, its arguments, what comes back. The rows of RECORDS are whole inputs of the program
+`gongspindle`, and the lines that the document and the project's decisions say.
 """
 import rules
 
@@ -90,4 +91,40 @@ WORKED = [
     (rules.sample, (list(range(30)), 6, 5, 2 * 16, 1 * 16), (0, 8 * 67_108_864)),
     # "s = 32, p = 800: 1,131."
     (rules.length, (32, 800), (0, 1_131)),
+]
+
+
+def pixel(size):
+    """A record of kind 3."""
+    return b'\3' + size.to_bytes(4, 'little')
+
+
+# A 16×16 picture whose levels are all 40, and its line
+FORTY, FORTY_LINE = b'\1' + bytes([40] * 256), '16 16 6 0 0 5242880/131072'
+# As many records of kind 3 as 32,768 bytes hold, which are 6,553 and three bytes more
+PIXELS = pixel(800) * 6_553
+
+RECORDS = [
+    # "For one kind-1 record whose levels are all 40 the whole output is"
+    (FORTY, [FORTY_LINE, 'records 1']),
+    # no input; "for kind 3 `pixel` and the size"
+    (b'', ['records 0']),
+    (pixel(0) + pixel(4_294_967_295), ['pixel 0', 'pixel 4294967295', 'records 2']),
+    # "A faulty record gives `bad`, number, `at`, offset of its kind byte as the last line, after the good records' lines."
+    (b'\0', ['bad 16 at 0']),
+    (b'\4' + bytes(5_000), ['bad 16 at 0']),
+    (b'\1' + bytes(255), ['bad 17 at 0']),
+    (b'\2' + bytes(4_095), ['bad 17 at 0']),
+    (b'\3' + bytes(3), ['bad 17 at 0']),
+    (b'\3', ['bad 17 at 0']),
+    (FORTY + pixel(800) + b'\7', [FORTY_LINE, 'pixel 800', 'bad 16 at 262']),
+    (pixel(800) + FORTY + b'\2', ['pixel 800', FORTY_LINE, 'bad 17 at 262']),
+    # 32,768 bytes are taken, whole records or not; "Input too long gives only `bad 18 at 32768`."
+    (FORTY * 126 + pixel(1) * 77 + b'\0', [FORTY_LINE] * 126 + ['pixel 1'] * 77 + ['bad 16 at 32767']),
+    (FORTY * 3 + pixel(1) * 6_399 + b'\3', [FORTY_LINE] * 3 + ['pixel 1'] * 6_399 + ['bad 17 at 32766']),
+    (PIXELS + b'\3\0\0', ['pixel 800'] * 6_553 + ['bad 17 at 32765']),
+    (FORTY * 4 + pixel(1) * 6_348, [FORTY_LINE] * 4 + ['pixel 1'] * 6_348 + ['records 6352']),
+    (PIXELS + b'\3\0\0\0', ['bad 18 at 32768']),
+    (bytes(32_769), ['bad 18 at 32768']),
+    (FORTY * 200, ['bad 18 at 32768']),
 ]

@@ -6,7 +6,7 @@ ghost use lib.ListN.{length};
 ghost use lib.Signed.{ltZ};
 ghost use mathlib.Core.Bool.{true};
 ghost use mathlib.Core.Path.{_≡_};
-use crate::least;
+use crate::smaller;
 use libc::STDOUT_FILENO;
 
 // Writes the text in the block.
@@ -56,7 +56,7 @@ fn digits(block: &mut [u8], at: usize, n: u64) -> usize
         return at + 1;
     }
     let mut text = [0u8; 20];
-    let k = least(io::decimal(n, &mut text), 20);
+    let k = smaller(io::decimal(n, &mut text), 20);
     copy(&text, k, block, at);
     at + k
 }

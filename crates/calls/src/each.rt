@@ -10,6 +10,25 @@ use units::Eighths;
 use units::Picometres;
 use units::Sixteenths;
 
+// The sides of a picture, if the input had them.
+enum Sides {
+    Of { width: usize, height: usize },
+    Cut,
+}
+
+fn both_sides() -> Sides {
+    let Unsigned::Of(width) = request::number() else {
+        return Sides::Cut;
+    };
+    let Unsigned::Of(height) = request::number() else {
+        return Sides::Cut;
+    };
+    Sides::Of {
+        width: width as usize,
+        height: height as usize,
+    }
+}
+
 // `f` and `m`: levels, width, height, output, work.
 pub(crate) fn picture(
     letter: u8,
@@ -24,22 +43,11 @@ pub(crate) fn picture(
     if !l.whole {
         return false;
     }
-    let Unsigned::Of(width) = request::number() else {
-        return false;
-    };
-    let Unsigned::Of(height) = request::number() else {
+    let Sides::Of { width, height } = both_sides() else {
         return false;
     };
     let i = l.count;
-    picture_lent(
-        letter,
-        block,
-        &levels[..i],
-        width as usize,
-        height as usize,
-        one,
-        two,
-    )
+    picture_lent(letter, block, &levels[..i], width, height, one, two)
 }
 
 // Their two buffers.
@@ -193,10 +201,7 @@ pub(crate) fn sample(block: &mut [u8], levels: &mut [u8]) -> bool
     if !l.whole {
         return false;
     }
-    let Unsigned::Of(width) = request::number() else {
-        return false;
-    };
-    let Unsigned::Of(height) = request::number() else {
+    let Sides::Of { width, height } = both_sides() else {
         return false;
     };
     let Signed::Of(x) = request::signed_number() else {
@@ -209,8 +214,8 @@ pub(crate) fn sample(block: &mut [u8], levels: &mut [u8]) -> bool
     sample_lent(
         block,
         &levels[..i],
-        width as usize,
-        height as usize,
+        width,
+        height,
         Sixteenths::of(x),
         Sixteenths::of(y),
     );

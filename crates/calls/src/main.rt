@@ -87,8 +87,8 @@ fn serve(block: &mut [u8], levels: &mut [u8], one: &mut [u16], two: &mut [u16], 
     }
 }
 
-// The lesser of two: what still has room, and what there is.
-fn least(a: usize, b: usize) -> usize
+// The smaller of two: what still has room, and what there is.
+fn smaller(a: usize, b: usize) -> usize
     ensures { λ r. ⌜ r ≡ min a b ⌝ }
 {
     if a < b { a } else { b }

@@ -9,8 +9,9 @@ ghost use mir.Val.{toZ};
 ghost use Rattle.io.specs.Counts.{Counts};
 ghost use Rattle.numbers.specs.Refusals.{Unless};
 ghost use Rattle.calls.specs.Space.{All, None};
-use crate::least;
+use crate::smaller;
 use libc::STDIN_FILENO;
+use numbers::bytes;
 
 // What a request begins with: the letter of a call, or nothing at the end of the input.
 pub enum Next {
@@ -35,25 +36,6 @@ pub struct Taken {
     pub count: usize,
 }
 
-// Numbers are little-endian.
-fn pair(a: u8, b: u8) -> u16
-    ensures { λ r. ⌜ r ≡ a + b * 256 ⌝ }
-{
-    a as u16 + b as u16 * 256
-}
-
-fn four(a: u16, b: u16) -> u32
-    ensures { λ r. ⌜ r ≡ a + b * 65536 ⌝ }
-{
-    a as u32 + b as u32 * 65536
-}
-
-fn eight(a: u32, b: u32) -> u64
-    ensures { λ r. ⌜ r ≡ a + b * 4294967296 ⌝ }
-{
-    a as u64 + b as u64 * 4294967296
-}
-
 // The beginning of the next request.
 pub(crate) fn beginning() -> Next {
     let mut b = [0u8; 1];
@@ -71,9 +53,9 @@ pub(crate) fn number() -> Unsigned {
     if got < 8 {
         return Unsigned::Cut;
     }
-    let low = four(pair(b[0], b[1]), pair(b[2], b[3]));
-    let high = four(pair(b[4], b[5]), pair(b[6], b[7]));
-    Unsigned::Of(eight(low, high))
+    let low = bytes::four(bytes::pair(b[0], b[1]), bytes::pair(b[2], b[3]));
+    let high = bytes::four(bytes::pair(b[4], b[5]), bytes::pair(b[6], b[7]));
+    Unsigned::Of(bytes::eight(low, high))
 }
 
 // The signed number whose bits, in two's complement, are those of n.
@@ -154,7 +136,7 @@ fn join_pairs(b: &[u8], space: &mut [u16], at: usize, k: usize)
     let mut i = 0;
     while i < k {
         let j = 2 * i;
-        space[at + i] = pair(b[j], b[j + 1]);
+        space[at + i] = bytes::pair(b[j], b[j + 1]);
         i += 1;
     }
 }
@@ -165,7 +147,7 @@ fn pairs(b: &mut [u8], space: &mut [u16], n: usize) -> bool
 {
     let mut at = 0;
     while at < n {
-        let k = least(n - at, b.len() / 2);
+        let k = smaller(n - at, b.len() / 2);
         let whole = exactly(b, 2 * k);
         if !whole {
             return false;
@@ -197,7 +179,7 @@ fn join_fours(b: &[u8], space: &mut [u32], n: usize)
     let mut i = 0;
     while i < n {
         let j = 4 * i;
-        space[i] = four(pair(b[j], b[j + 1]), pair(b[j + 2], b[j + 3]));
+        space[i] = bytes::four(bytes::pair(b[j], b[j + 1]), bytes::pair(b[j + 2], b[j + 3]));
         i += 1;
     }
 }

@@ -1,4 +1,5 @@
 -- A block: the columns that the code takes are those that lie next to a pixel, and once they are put in, its median is read off.
+-- Assumes nothing.
 use mathlib.Core.Path.{_≡_, refl, sym, ap, _∙_}
 use mathlib.Core.List.{List, [], _∷_, _++_, append-nil}
 use Prim.Native.Nat.{ℕ, zero, suc, _+_, _-_, _*_, _/_, _≤_, _<_, zero-le, min}
@@ -9,7 +10,7 @@ use lib.Seq.{slice, length-slice, take-nil, drop-nil}
 use Rattle.numbers.specs.Lists.{joined, AtMost}
 use Rattle.filter.specs.Median.{near, insertAll, sorted, twiceMedian, block, rowOf}
 use Rattle.filter.specs.Asked.{Row}
-use Rattle.numbers.proofs.Lists.{length-joined, joined-at, most-append, most-slice}
+use Rattle.numbers.proofs.Lists.{length-joined, joined-at, joined-same, most-append, most-slice}
 use Rattle.filter.proofs.Ranges.{most-insertAll}
 use Rattle.filter.proofs.Inserting.{Gathered, insertAll-append}
 
@@ -86,11 +87,6 @@ module _ (i f c n v : ℕ) (column : i < n) (next : Next n i f c) where
   pub cell-of-one : (h : List ℕ) → length h ≡ n → v ≡ twiceMedian (slice f (f + c) h) → v ≡ getD (rowOf [] h []) i 0
   unfolding block
   cell-of-one h p e = e ∙ rw (row-at [] h [] i (rw p column), near-nothing i, near-is i f c h (rw p next), append-nil (slice f (f + c) h))
-
-joined-same : (n : ℕ) (f g : ℕ → List ℕ) → ((i : ℕ) → f i ≡ g i) → joined n f ≡ joined n g
-unfolding joined
-joined-same zero f g e = refl
-joined-same (suc n) f g e = rw (joined-same n f g e, e n)
 
 block-below : (u l : List ℕ) (i : ℕ) → block u l [] i ≡ block [] u l i
 unfolding block

@@ -1,4 +1,4 @@
--- How many levels a block has: 1, 2, 3, 4, 6 or 9.
+-- How many levels a block has: 1, 2, 3, 4, 6 or 9. Assumes nothing.
 use mathlib.Core.Path.{_≡_, refl}
 use Prim.Native.Nat.{ℕ, zero, suc, _+_, _*_, _≤_}
 use native.Mathlib.Omega.{arith}

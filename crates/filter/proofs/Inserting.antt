@@ -1,4 +1,4 @@
--- `put` and `gather`: a level put into its place, and a row's levels one after the other.
+-- `put` and `gather`: a level put into its place, and a row's levels one after the other. Assumes nothing.
 use mathlib.Core.Path.{_≡_, refl, ap, _∙_}
 use mathlib.Core.List.{List, [], _∷_, _++_, append-assoc}
 use Prim.Native.Nat.{ℕ, suc, _+_, _-_, _≤_, _<_, min, max}

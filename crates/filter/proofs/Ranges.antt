@@ -1,4 +1,4 @@
--- What a pass makes of lists whose elements are at most b.
+-- What a pass makes of lists whose elements are at most b. Assumes nothing.
 use mathlib.Core.List.{List, [], _∷_, _++_}
 use Prim.Native.Nat.{ℕ, zero, suc, _+_, _-_, _*_, _/_, _≤_, zero-le, max}
 use mathlib.Core.Path.{_≡_}

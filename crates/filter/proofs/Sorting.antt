@@ -1,4 +1,5 @@
 -- Document 01, "Sorted, the answer is the middle one": `sorted` gives the same levels in ascending order, and nothing else does.
+-- Assumes nothing.
 use mathlib.Core.Path.{_≡_, refl, sym, ap, _∙_}
 use mathlib.Core.Logic.{_⊎_, inl, inr, ∥∥₁-elim}
 use mathlib.Core.List.{List, [], _∷_, List·isSet, Perm, List·Permᴰ, List·Permᴰ·nil, List·Permᴰ·cons, List·Permᴰ·swap, List·Permᴰ·trans, Permᴰ·refl}
@@ -88,16 +89,6 @@ perm-sorted (x ∷ l) = rw sorted-cons (List·Permᴰ·trans (perm-insert x (sor
 -- the sorted levels are the levels, each as often
 pub same-levels : (l : List ℕ) → Perm (sorted l) l
 same-levels l = ∣ perm-sorted l ∣₁
-
-same-length : {l m : List ℕ} → List·Permᴰ l m → length l ≡ length m
-same-length List·Permᴰ·nil = refl
-same-length (List·Permᴰ·cons e p) = ap suc (same-length p)
-same-length (List·Permᴰ·swap e f) = refl
-same-length (List·Permᴰ·trans p q) = same-length p ∙ same-length q
-
--- sorting keeps the number of levels
-pub length-sorted : (l : List ℕ) → length (sorted l) ≡ length l
-length-sorted l = same-length (perm-sorted l)
 
 -- ---- and nothing else
 same-sorted : {l m : List ℕ} → List·Permᴰ l m → sorted l ≡ sorted m

@@ -82,21 +82,21 @@ fn put(t: &mut [u16], n: usize, v: u16)
 }
 
 // Two values in ascending order.
-struct Pair {
+struct Ascending {
     low: u16,
     high: u16,
 }
 
 // They are compared as signed numbers: for those the processor has instructions, and a value is far
 // below 32,768.
-fn ordered(a: u16, b: u16) -> Pair
+fn ordered(a: u16, b: u16) -> Ascending
     requires { ⌜ (a ≤ 1020) × (b ≤ 1020) ⌝ }
     ensures { λ r. ⌜ (r .low ≡ min a b) × (r .high ≡ max a b) ⌝ }
 {
     if (a as i16) < (b as i16) {
-        return Pair { low: a, high: b };
+        return Ascending { low: a, high: b };
     }
-    Pair { low: b, high: a }
+    Ascending { low: b, high: a }
 }
 
 // The two middle ranks of the first n of t, which ascend, added.

@@ -10,7 +10,8 @@ use Rattle.units.specs.declared.Picometres.{Picometres}
 use Rattle.units.specs.declared.Eighths.{Eighths}
 use Rattle.judge.specs.declared.Verdict.{Verdict}
 use Rattle.judge.specs.Judge.{verdict, JudgeIs}
-use Rattle.judge.proofs.Verdicts.{one-verdict}
+use Rattle.judge.specs.Measure.{Measurement, measurement, MeasureIs}
+use Rattle.judge.proofs.Verdicts.{one-verdict, one-measurement}
 use Rattle.threshold.specs.declared.Threshold.{Threshold}
 use Rattle.threshold.specs.TwoMeans.{answered, TwoMeansIs}
 use Rattle.threshold.proofs.Outcomes.{one-threshold}
@@ -40,6 +41,19 @@ module _ (N M m D n q n' q' : ℕ) (this : JudgeIs N (eighths M) (eighths m) D (
 
   pub one-judgement : (n ≡ n') × (q ≡ q')
   one-judgement = (ap (λ (v : Verdict). v .number) same-verdict, ap (λ (v : Verdict). v .ratio) same-verdict)
+
+-- any two outcomes that `gong_measure` is permitted, the number that it returns, the ratio that it writes and both buffers, are equal
+module _ (levels : List ℕ) (w h : ℕ) (output work : List ℕ) (n q n' q' : ℕ) (o k o' k' : List ℕ) (this : MeasureIs levels w h output work (measurement (verdict n q) o k)) (that : MeasureIs levels w h output work (measurement (verdict n' q') o' k')) where
+  same-measurement : measurement (verdict n q) o k ≡ measurement (verdict n' q') o' k'
+  same-measurement = one-measurement levels w h output work (measurement (verdict n q) o k) (measurement (verdict n' q') o' k') this that
+
+  pub one-measuring : (n ≡ n') × (q ≡ q') × (o ≡ o') × (k ≡ k')
+  one-measuring = (
+    ap (λ (m : Measurement). m .verdict .number) same-measurement,
+    ap (λ (m : Measurement). m .verdict .ratio) same-measurement,
+    ap (λ (m : Measurement). m .output) same-measurement,
+    ap (λ (m : Measurement). m .work) same-measurement,
+  )
 
 -- any two outcomes that `gong_two_means` is permitted, the number that it returns and the three that it writes, are equal
 module _ (h : List ℕ) (n k a b n' k' a' b' : ℕ) (this : TwoMeansIs h (answered n k (fraction a b))) (that : TwoMeansIs h (answered n' k' (fraction a' b'))) where

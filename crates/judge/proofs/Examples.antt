@@ -1,5 +1,5 @@
--- What a student can work by hand (document 01): the judge's examples as one table, with the ends of its ranges, which antt computes;
--- and two small filtered pictures, cut into tiles. Assumes nothing.
+-- The judge as one table, which antt computes, with the ends of its ranges; and two small filtered pictures, cut into tiles. What
+-- document 01 marks stands in cases/proofs/Cases.antt, which tests it by `holds`. Assumes nothing.
 use mathlib.Core.Path.{_≡_, refl}
 use mathlib.Core.List.{List, [], _∷_}
 use mathlib.Core.Logic.{inl, Dec·and, Dec·not}
@@ -27,7 +27,7 @@ pub record Row : Type 0 where
   pub number : ℕ
   pub ratio : ℕ
 
-abbrev row : ℕ → ℕ → ℕ → ℕ → ℕ → ℕ → Row
+abbrev pub row : ℕ → ℕ → ℕ → ℕ → ℕ → ℕ → Row
 row N M m D n q = record { count = N; bright = M; dark = m; spread = D; number = n; ratio = q }
 
 -- that the judge's promise permits the row, as Judge.antt says it
@@ -67,19 +67,17 @@ module _ (N M m D n q : ℕ) where
 abbrev pub Holds : Row → Type 0
 Holds r = (v : Verdict) → JudgeIs (r .count) (eighths (r .bright)) (eighths (r .dark)) (r .spread) v → v ≡ verdict (r .number) (r .ratio)
 
-holds : (r : Row) → Option (Holds r)
+unfoldable pub holds : (r : Row) → Option (Holds r)
+unfolding decLe decLt ℕ-discrete Dec·and Dec·not when unless in-range back rated permitted
 holds r =
     Option·map (λ p v is. one-verdict (r .count) (eighths (r .bright)) (eighths (r .dark)) (r .spread) v (verdict (r .number) (r .ratio)) is p)
     (permitted (r .count) (r .bright) (r .dark) (r .spread) (r .number) (r .ratio))
 
--- N, M, m and D, then the number and q: the document's four; one that comes out otherwise where products wrap at 64 bits; both ends of the range of M, and of that of m, each with the number
--- past it; no noise; and 15, which comes before 6
+-- N, M, m and D, then the number and q: the greatest q that is discarded; one that comes out otherwise where products wrap at 64
+-- bits; both ends of the range of M, and of that of m, each with the number past it; no noise; and 15, which comes before 6
 abbrev pub table : List Row
 table =
-    row 256 25600 6400 419430400 0 1362
-    ∷ row 256 25600 6400 943718400 9 862
-    ∷ row 256 25600 7392 655360000 0 1000
-    ∷ row 256 25600 7392 655360001 9 999
+    row 256 25600 7392 655360001 9 999
     ∷ row 65536 25600 6400 35184372088832 0 1187
     ∷ row 256 21759 6400 419430400 6 0
     ∷ row 256 21760 6400 419430400 0 1062
@@ -94,7 +92,7 @@ table =
     ∷ []
 
 pub worked : EveryRow Holds table
-unfolding decLe decLt ℕ-discrete Dec·and Dec·not when unless in-range back rated permitted holds every-row
+unfolding holds every-row
 worked = get (every-row Holds holds table) tt
 
 -- ---- tiles: 1 to 32, row by row, as a picture 8 wide and 4 high, and as one 4 wide and 8 high

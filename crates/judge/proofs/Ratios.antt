@@ -37,10 +37,6 @@ answered-yes m n e h = leb-true m n (sym e ∙ h)
 pub answered-no : (m n : ℕ) {r : Bool} → r ≡ leb m n → r ≡ false → ¬ (m ≤ n)
 answered-no m n e h = not-le-of-lt (leb-false m n (sym e ∙ h))
 
--- an answer from its contrary
-pub contrary : {r b : Bool} → not r ≡ b → r ≡ not b
-contrary {r} h = sym (Bool·not-not r) ∙ ap not h
-
 -- ---- a power of two below the root
 -- p is at most the root of d, and more than half of it
 abbrev pub BelowRoot : ℕ → ℕ → Type 0

@@ -18,7 +18,7 @@ use Rattle.numbers.proofs.Lists.{part-at, most-take, most-drop}
 use Rattle.numbers.proofs.Sums.{sum-none, sum-more, sum-goes-on, square-of-sum}
 use Rattle.numbers.proofs.SignedSums.{sum-natural, sum-minus}
 use Rattle.judge.specs.Noise.{difference, spreadOf}
-use Rattle.judge.specs.Asked.{Pair, dist, light, flat, gap, Sums}
+use Rattle.judge.specs.Asked.{SamePixels, dist, light, flat, gap, Sums}
 
 -- the square of a difference is the square of how far the two are apart
 square-apart : (a b : ℕ) → square (pos a -ℤ pos b) ≡ pos (dist a b * dist a b)
@@ -127,12 +127,12 @@ module _ (levels filtered : List ℕ) (at n : ℕ) where
       }
 
 -- the stretch of a picture from `at` to `end`
-module _ {bound : ℕ} (levels filtered : List ℕ) (pair : Pair bound levels filtered) (at end : ℕ) (up : at ≤ end) (in-it : end ≤ length filtered) where
+module _ {bound : ℕ} (levels filtered : List ℕ) (pair : SamePixels bound levels filtered) (at end : ℕ) (up : at ≤ end) (in-it : end ≤ length filtered) where
   long : length (take (end - at) (drop at filtered)) ≡ end - at
   long = simp (length-take, length-drop) (omega arith)
 
   -- it has as many levels as filtered values
-  pub stretch-pair : {few : ℕ} → end ≤ at + few → Pair few (take (end - at) (drop at levels)) (take (end - at) (drop at filtered))
+  pub stretch-pair : {few : ℕ} → end ≤ at + few → SamePixels few (take (end - at) (drop at levels)) (take (end - at) (drop at filtered))
   stretch-pair {few} h =
       record {
         same = simp (length-take, length-drop) (omega (arith, pair .same));

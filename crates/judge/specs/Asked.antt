@@ -41,7 +41,7 @@ pub record Band (w wide high start : ℕ) (x : List ℕ) : Type 0 where
   pub long : length x ≤ 1048576
 
 -- at most `bound` levels, and the same number of filtered values, each at most 2,040
-pub record Pair (bound : ℕ) (levels filtered : List ℕ) : Type 0 where
+pub record SamePixels (bound : ℕ) (levels filtered : List ℕ) : Type 0 where
   pub same : length levels ≡ length filtered
   pub long : length filtered ≤ bound
   pub small : AtMost 2040 filtered

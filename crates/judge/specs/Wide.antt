@@ -1,4 +1,4 @@
--- Whole numbers of many places. Each place holds 16 bits, and the lowest comes first.
+-- Whole numbers of many places. Each place holds 16 bits, and the lowest comes first. No promise cites this.
 use mathlib.Core.List.{List}
 use Prim.Native.Nat.{ℕ, zero, suc, _+_, _*_, _^_}
 use lib.ListN.{getD}

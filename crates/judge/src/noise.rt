@@ -6,7 +6,7 @@ ghost use Prim.Native.Nat.{_*_, _≤_, min};
 ghost use lib.ListN.{length};
 ghost use lib.IntN.{pos};
 ghost use Rattle.judge.specs.Noise.{spreadOf};
-ghost use Rattle.judge.specs.Asked.{Pair, dist, Sums};
+ghost use Rattle.judge.specs.Asked.{SamePixels, dist, Sums};
 
 // The sums over some pixels: of d², of 8 times the levels, and of the filtered values.
 struct ThreeSums {
@@ -17,7 +17,7 @@ struct ThreeSums {
 
 // D of a picture and what it was filtered to.
 pub(crate) fn spread(levels: &[u8], filtered: &[u16]) -> u64
-    requires { ⌜ Pair 1048576 (now levels) (now filtered) ⌝ }
+    requires { ⌜ SamePixels 1048576 (now levels) (now filtered) ⌝ }
     ensures { λ r. ⌜ (pos r ≡ spreadOf (length (now (filtered .entry))) (now (levels .entry)) (now (filtered .entry))) × (r ≤ 4611686018427387904) ⌝ }
 {
     let n = filtered.len();
@@ -26,7 +26,7 @@ pub(crate) fn spread(levels: &[u8], filtered: &[u16]) -> u64
     let mut flats = 0u64;
     let mut at = 0usize;
     while at < n {
-        let end = nearer(at + 1024, n);
+        let end = smaller(at + 1024, n);
         let added = stretch(&levels[at..end], &filtered[at..end]);
         squares += added.squares as u64;
         lights += added.lights as u64;
@@ -40,7 +40,7 @@ pub(crate) fn spread(levels: &[u8], filtered: &[u16]) -> u64
 // The sums over a stretch of at most 1,024 pixels, which have room in 32 bits: so the compiler takes
 // four pixels at once.
 fn stretch(levels: &[u8], filtered: &[u16]) -> ThreeSums
-    requires { ⌜ Pair 1024 (now levels) (now filtered) ⌝ }
+    requires { ⌜ SamePixels 1024 (now levels) (now filtered) ⌝ }
     ensures { λ r. ⌜ Sums (now (levels .entry)) (now (filtered .entry)) (length (now (filtered .entry))) (r .squares) (r .lights) (r .flats) ⌝ }
 {
     let mut squares = 0u32;
@@ -82,7 +82,7 @@ fn apart16(a: u16, b: u16) -> u16
     if a < b { b - a } else { a - b }
 }
 
-fn nearer(a: usize, b: usize) -> usize
+fn smaller(a: usize, b: usize) -> usize
     ensures { λ r. ⌜ r ≡ min a b ⌝ }
 {
     if a < b { a } else { b }

@@ -1,47 +1,72 @@
--- The definition at numbers that one can work by hand (document 01, "What a student can work by hand"), and at the ends of
--- the ranges. antt computes both sides of each comparison. Assumes nothing.
-use mathlib.Core.Path.{_≡_, refl}
-use Prim.Native.Nat.{ℕ, _+_, _*_}
+-- The least length and the greatest as one table, which antt computes. What document 01 marks stands in cases/proofs/Cases.antt,
+-- which tests it by `holds`. Assumes nothing.
+use mathlib.Core.Path.{_≡_}
+use mathlib.Core.List.{List, [], _∷_}
+use mathlib.Core.Logic.{Dec·and}
+use mathlib.Core.Option.{Option, Option·map, get}
+use Prim.Native.Nat.{ℕ, _+_, _*_, _<_, _≤_}
 use native.Mathlib.Nat.{not-le-of-lt}
-use lib.Dec.{T, leb, ltb, leb→le, ltb→lt}
+use native.Mathlib.Decide.{decLe, decLt, ℕ-discrete}
 use lib.IntN.{pos}
 use Rattle.numbers.proofs.Greatest.{by-neighbours}
+use Rattle.numbers.proofs.Computed.{when, EveryRow, every-row}
 use Rattle.units.specs.Units.{sixteenths, picometres}
 use Rattle.length.specs.declared.Sharpness.{Sharpness}
 use Rattle.length.specs.Length.{answer, LengthIs}
 use Rattle.length.proofs.Laws.{falling, Ranged, is-the-length, one-answer}
 
--- f and p are in range, 512·q² is at most (p·f)², and 512·(q+1)² is more: six tests that antt computes
-abbrev pub Tests : ℕ → ℕ → ℕ → Type 0
-Tests f p q =
-    T (leb 1 f) × T (leb f 16384) × T (leb 1 p) × T (leb p 100000) × T (leb (512 * (q * q)) (p * f * (p * f))) × T (ltb (p * f * (p * f)) (512 * ((q + 1) * (q + 1))))
+-- ---- a row of the table: a factor and a pixel size, and what comes back
+pub record Row : Type 0 where
+  pub factor : ℕ
+  pub pixel : ℕ
+  pub number : ℕ
+  pub length : ℕ
 
--- then number 0 and the length q are permitted, and nothing else is
-module _ (f p q : ℕ) (t : Tests f p q) where
-  ranged : Ranged f p
-  ranged =
-      record {
-        low = leb→le 1 f (t .0);
-        high = leb→le f 16384 (t .1);
-        small = leb→le 1 p (t .2);
-        large = leb→le p 100000 (t .3);
-      }
+abbrev pub row : ℕ → ℕ → ℕ → ℕ → Row
+row f p n q = record { factor = f; pixel = p; number = n; length = q }
 
-  worked : LengthIs (sixteenths (pos f)) (picometres p) (answer 0 q)
-  worked =
-      is-the-length (sixteenths (pos f)) (picometres p) ranged (answer 0 q) refl
-      (by-neighbours (falling (p * f * (p * f))) (leb→le _ _ (t .4)) (not-le-of-lt (ltb→lt _ _ (t .5))))
+-- the number and the length, and no other
+abbrev pub Holds : Row → Type 0
+Holds r = (s : Sharpness) → LengthIs (sixteenths (pos (r .factor))) (picometres (r .pixel)) s → s ≡ answer (r .number) (r .length)
 
-  pub only : (r : Sharpness) → LengthIs (sixteenths (pos f)) (picometres p) r → r ≡ answer 0 q
-  only r is = one-answer (sixteenths (pos f)) (picometres p) r (answer 0 q) is worked
+-- ---- and the test
+module _ (f p n q : ℕ) where
+  -- f and p are in range; the number is 0; 512·q² is at most (p·f)², and 512·(q+1)² is more
+  abbrev pub Tests : Type 0
+  Tests =
+      ((1 ≤ f) × ((f ≤ 16384) × ((1 ≤ p) × (p ≤ 100000))))
+      × ((n ≡ 0) × ((512 * (q * q) ≤ p * f * (p * f)) × (p * f * (p * f) < 512 * ((q + 1) * (q + 1)))))
 
--- "s = 32, p = 800: 1,131"
-pub marked : (r : Sharpness) → LengthIs (sixteenths (pos 32)) (picometres 800) r → r ≡ answer 0 1131
-marked = only 32 800 1131 (tt, tt, tt, tt, tt, tt)
+  pub only : Tests → Holds (row f p n q)
+  only t s is = one-answer (sixteenths (pos f)) (picometres p) s (answer n q) is permitted
+    where
+      ranged : Ranged f p
+      ranged = record { low = t .0 .0; high = t .0 .1 .0; small = t .0 .1 .1 .0; large = t .0 .1 .1 .1 }
 
--- the least length and the greatest
-pub least : (r : Sharpness) → LengthIs (sixteenths (pos 1)) (picometres 1) r → r ≡ answer 0 0
-least = only 1 1 0 (tt, tt, tt, tt, tt, tt)
+      permitted : LengthIs (sixteenths (pos f)) (picometres p) (answer n q)
+      permitted =
+          is-the-length (sixteenths (pos f)) (picometres p) ranged (answer n q) (t .1 .0)
+          (by-neighbours (falling (p * f * (p * f))) (t .1 .1 .0) (not-le-of-lt (t .1 .1 .1)))
 
-pub greatest : (r : Sharpness) → LengthIs (sixteenths (pos 16384)) (picometres 100000) r → r ≡ answer 0 72407734
-greatest = only 16384 100000 72407734 (tt, tt, tt, tt, tt, tt)
+  tests : Dec Tests
+  tests =
+      Dec·and
+      (Dec·and (decLe 1 f) (Dec·and (decLe f 16384) (Dec·and (decLe 1 p) (decLe p 100000))))
+      (Dec·and (ℕ-discrete n 0) (Dec·and (decLe _ _) (decLt _ _)))
+
+unfoldable pub holds : (r : Row) → Option (Holds r)
+unfolding decLe decLt ℕ-discrete Dec·and when tests
+holds r =
+    Option·map (only (r .factor) (r .pixel) (r .number) (r .length))
+    (when (tests (r .factor) (r .pixel) (r .number) (r .length)))
+
+-- factor and pixel size, then the number and the length
+abbrev pub table : List Row
+table =
+    row 1 1 0 0
+    ∷ row 16384 100000 0 72407734
+    ∷ []
+
+pub worked : EveryRow Holds table
+unfolding holds every-row
+worked = get (every-row Holds holds table) tt

@@ -12,7 +12,7 @@ use Rattle.numbers.proofs.Greatest.{Falling, one-greatest, next-has-not, reword
 use Rattle.units.specs.declared.Sixteenths.{Sixteenths}
 use Rattle.units.specs.declared.Picometres.{Picometres}
 use Rattle.length.specs.declared.Sharpness.{Sharpness}
-use Rattle.length.specs.Length.{InRange, AtMost, Done, answer, LengthIs}
+use Rattle.length.specs.Length.{InRange, Reaches, Done, answer, LengthIs}
 
 -- what is at most t stays so for each smaller number
 pub falling : (t : ℕ) → Falling (λ q. 512 * (q * q) ≤ t)
@@ -49,7 +49,7 @@ module _ (s : Sixteenths) (p : Picometres) (ok : Ranged (natOf (s .0)) (p .0)) w
         pixel-high = ok .large;
       }
 
-  greatest : {q : ℕ} → Greatest (λ k. 512 * (k * k) ≤ p .0 * natOf (s .0) * (p .0 * natOf (s .0))) q → Greatest (AtMost s p) q
+  greatest : {q : ℕ} → Greatest (λ k. 512 * (k * k) ≤ p .0 * natOf (s .0) * (p .0 * natOf (s .0))) q → Greatest (Reaches s p) q
   greatest g = rw whole (reworded (λ (k : ℕ) h. to-ℤ h) (λ (k : ℕ) h. of-ℤ h) g)
 
   pub is-the-length : (r : Sharpness) → r .number ≡ 0 → Greatest (λ k. 512 * (k * k) ≤ p .0 * natOf (s .0) * (p .0 * natOf (s .0))) (r .length .0) → LengthIs s p r
@@ -78,7 +78,7 @@ pub same-answer : {r r' : Sharpness} → r .number ≡ r' .number → r .length 
 same-answer {r} {r'} number length = ap (λ (n : ℕ). answer n (r .length .0)) number ∙ ap (answer (r' .number)) length
 
 -- the length is rounded down: q picometres are at most the sharpness, and q + 1 are not
-pub rounded-down : (s : Sixteenths) (p : Picometres) (r : Sharpness) → Done s p r → AtMost s p (r .length .0) × (¬ AtMost s p (r .length .0 + 1))
+pub rounded-down : (s : Sixteenths) (p : Picometres) (r : Sharpness) → Done s p r → Reaches s p (r .length .0) × (¬ Reaches s p (r .length .0 + 1))
 rounded-down s p r done = (done .length .holds, next-has-not (done .length))
 
 -- any two outcomes that the promise permits are equal

@@ -20,13 +20,13 @@ pub record InRange (s : Sixteenths) (p : Picometres) : Type 0 where
 
 -- "512·q² ≤ (p·s)²". The factor is s/16 pixels, so p·s/16 picometres; over the square root of 2, and squared, (p·s)²/512.
 -- So this says that q picometres are at most the sharpness, with no root and nothing rounded.
-abbrev pub AtMost : Sixteenths → Picometres → ℕ → Type 0
-AtMost s p q = (pos 512 *ℤ square (pos q)) ≤ℤ square (pos (p .0) *ℤ s .0)
+abbrev pub Reaches : Sixteenths → Picometres → ℕ → Type 0
+Reaches s p q = (pos 512 *ℤ square (pos q)) ≤ℤ square (pos (p .0) *ℤ s .0)
 
 -- "0 | done", and "the greatest whole q with 512·q² ≤ (p·s)²"
 pub record Done (s : Sixteenths) (p : Picometres) (r : Sharpness) : Type 0 where
   pub number : r .number ≡ 0
-  pub length : Greatest (AtMost s p) (r .length .0)
+  pub length : Greatest (Reaches s p) (r .length .0)
 
 -- an answer by its two numbers
 abbrev pub answer : ℕ → ℕ → Sharpness

@@ -59,10 +59,11 @@ most-equal b zero x p k = zero-le
 most-equal b (suc n) x p zero = p
 most-equal b (suc n) x p (suc k) = most-equal b n x p k
 
--- of zeros, as a block's places are before its levels are put in
+-- of zeros
 pub most-zeros : (b n : ℕ) → AtMost b (replicate n 0)
 most-zeros b n = most-equal b n 0 zero-le
 
+-- of a part of a list
 pub most-take : (b n : ℕ) (l : List ℕ) → AtMost b l → AtMost b (take n l)
 most-take b zero l p k = zero-le
 most-take b (suc n) [] p k = zero-le

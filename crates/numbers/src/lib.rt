@@ -1,7 +1,8 @@
-// What several crates cite: the numbers that come back (`table`), fractions, and, in specs/ and
-// proofs/, the chain of refusals, the greatest of a kind and how halving finds it, the least of a kind,
-// signed numbers beside natural ones and how far they go, sums, lists, and tests that are computed.
-// Laws are shared from here; the one function is total.
+// What several crates cite: the numbers that come back (`table`), numbers from their bytes (`bytes`),
+// fractions, and, in specs/ and proofs/, the chain of refusals, the greatest of a kind and how halving
+// finds it, the least of a kind, signed numbers beside natural ones and how far they go, sums, lists, and
+// tests that are computed. Laws are shared from here; the few functions are total.
+pub mod bytes;
 pub mod table;
 
 ghost use mathlib.Core.Path.{_≡_};

@@ -1,5 +1,5 @@
 // Document 01, "Numbers that come back": each number once, with the table's own words. (16 to 18 are of
-// the program, which is still to come: the table does not move.)
+// the program gongspindle.)
 
 // "done"
 pub const DONE: u8 = 0;

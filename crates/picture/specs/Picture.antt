@@ -8,9 +8,9 @@ abbrev pub Side : ℕ → Type 0
 Side n = (1 ≤ n) × (n ≤ 1024)
 
 -- The numbers 1 and 2, from how many levels are lent for which sides: "w or h outside 1..1,024", "levels lent ≠ w·h".
--- `refused n` says what holds where n comes back, `fits` what holds past both.
+-- `back n` says what holds where n comes back, `fits` what holds past both.
 abbrev pub Shaped : ℕ → ℕ → ℕ → (ℕ → Type 0) → Type 0 → Type 0
-Shaped levels w h refused fits =
-    Unless (Side w × Side h) (refused 1)
-    (Unless (levels ≡ w * h) (refused 2)
+Shaped levels w h back fits =
+    Unless (Side w × Side h) (back 1)
+    (Unless (levels ≡ w * h) (back 2)
     fits)

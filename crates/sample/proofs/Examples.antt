@@ -1,5 +1,5 @@
--- What a student can work by hand (document 01), as one table, which antt computes: the marked place; places where columns and rows
--- are not alike; both ends of the range; the borders; and the numbers 1 and 2. Assumes nothing.
+-- Samples as one table, which antt computes: places where columns and rows are not alike; both ends of the range; the borders; and
+-- the numbers 1 and 2. What document 01 marks stands in cases/proofs/Cases.antt, which tests it by `holds`. Assumes nothing.
 use mathlib.Core.Path.{_≡_, ap}
 use mathlib.Core.Bool.{Bool, true, false}
 use mathlib.Core.List.{List, [], _∷_}
@@ -29,7 +29,7 @@ pub record Row : Type 0 where
   pub number : ℕ
   pub value : ℤ
 
-abbrev row : List ℕ → ℕ → ℕ → ℤ → ℤ → ℕ → ℤ → Row
+abbrev pub row : List ℕ → ℕ → ℕ → ℤ → ℤ → ℕ → ℤ → Row
 row l w h a b n v = record { levels = l; width = w; height = h; x = a; y = b; number = n; value = v }
 
 -- ---- that the promise permits the row, as Cubic.antt says it
@@ -69,20 +69,13 @@ permitted l w h x y n v =
 abbrev pub Holds : Row → Type 0
 Holds r = (s : Sampled) → SampleIs (r .levels) (r .width) (r .height) (sixteenths (r .x)) (sixteenths (r .y)) s → s ≡ sampled (r .number) (r .value)
 
-holds : (r : Row) → Option (Holds r)
+unfoldable pub holds : (r : Row) → Option (Holds r)
+unfolding decLe ℕ-discrete Dec·and when unless ordered same side inside back permitted sampleOf sumℤ weight
 holds r =
     Option·map (λ p s is. one-sample (r .levels) (r .width) (r .height) (sixteenths (r .x)) (sixteenths (r .y)) s (sampled (r .number) (r .value)) is p)
     (permitted (r .levels) (r .width) (r .height) (r .x) (r .y) (r .number) (r .value))
 
 -- ---- the pictures
--- "Four columns 0 0 255 255, four rows"
-abbrev pub step : List ℕ
-step =
-    0 ∷ 0 ∷ 255 ∷ 255 ∷
-    0 ∷ 0 ∷ 255 ∷ 255 ∷
-    0 ∷ 0 ∷ 255 ∷ 255 ∷
-    0 ∷ 0 ∷ 255 ∷ 255 ∷ []
-
 -- five columns and four rows, where no exchange of the two leaves anything alone
 abbrev pub odd : List ℕ
 odd =
@@ -106,13 +99,12 @@ darkest =
     255 ∷ 0 ∷ 0 ∷ 255 ∷
     0 ∷ 255 ∷ 255 ∷ 0 ∷ []
 
--- Picture, width, height, x and y, then the number and the value. "both remainders 8: 8,556,380,160 (127.5 levels) at i = j = 1"; two
--- remainders, and the two exchanged; a pixel's own level, 90; both ends of the range; the last place that has a sample; a place past
--- each of the four borders, and farther; a side of 0; and too few levels, which comes before 13
+-- Picture, width, height, x and y, then the number and the value. Two remainders, and the two exchanged; a pixel's own level, 90;
+-- both ends of the range; the last place that has a sample; a place past each of the four borders, and farther; a side of 0; and too
+-- few levels, which comes before 13
 abbrev pub table : List Row
 table =
-    row step 4 4 (pos 24) (pos 24) 0 (pos 8556380160)
-    ∷ row odd 5 4 (pos 43) (pos 19) 0 (pos 13569783279)
+    row odd 5 4 (pos 43) (pos 19) 0 (pos 13569783279)
     ∷ row odd 5 4 (pos 35) (pos 27) 0 (pos 5867775855)
     ∷ row odd 5 4 (pos 32) (pos 16) 0 (pos 6039797760)
     ∷ row brightest 4 4 (pos 24) (pos 24) 0 (pos 21925724160)
@@ -129,5 +121,5 @@ table =
     ∷ []
 
 pub worked : EveryRow Holds table
-unfolding decLe ℕ-discrete Dec·and when unless ordered same side inside back permitted holds every-row sampleOf sumℤ weight
+unfolding holds every-row
 worked = get (every-row Holds holds table) tt

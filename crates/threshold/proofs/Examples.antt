@@ -1,9 +1,9 @@
--- What a student can work by hand (document 01): thresholds as one table, which antt computes, with every threshold on the way; and a
--- histogram with three that rest. Assumes nothing.
-use mathlib.Core.Path.{_≡_, refl, sym, subst}
+-- Thresholds as one table, which antt computes, with every threshold on the way. What document 01 marks stands in
+-- cases/proofs/Cases.antt, which tests it by `holds` and `at-rest`. Assumes nothing.
+use mathlib.Core.Path.{_≡_, sym, subst}
 use mathlib.Core.List.{List, [], _∷_}
 use mathlib.Core.Logic.{Dec·and, Dec·not}
-use mathlib.Core.Option.{Option, none, some, get}
+use mathlib.Core.Option.{Option, Option·map, get}
 use Prim.Native.Nat.{ℕ, suc, _+_, _≤_, zero-le}
 use native.Mathlib.Nat.{pos-of-ne-zero, zero-add}
 use native.Mathlib.Decide.{decLe, ℕ-discrete}
@@ -19,7 +19,7 @@ use Rattle.numbers.proofs.Refusals.{goes-on}
 use Rattle.numbers.proofs.Computed.{when, EveryRow, every-row}
 use Rattle.threshold.specs.declared.Threshold.{Threshold}
 use Rattle.threshold.specs.Histogram.{total}
-use Rattle.threshold.specs.TwoMeans.{level, start, sumOver, round, Rests, threshold, Settled, answered, Done, TwoMeansIs}
+use Rattle.threshold.specs.TwoMeans.{level, start, sumOver, round, Rests, threshold, Settled, answered, TwoMeansIs}
 use Rattle.threshold.proofs.Sequence.{within-or-not, rests-or-not}
 use Rattle.threshold.proofs.Demand.{RestsAt, settled}
 use Rattle.threshold.proofs.Outcomes.{one-threshold}
@@ -43,53 +43,59 @@ module _ (m : ℕ) (h : List ℕ) where
       let z : k + suc (length l) ≡ suc k + length l = omega arith in
       rw z (first-of l (suc k) U (not-yet from (walk .0)) (subst (λ (R : Fraction). Walk h R l U) (sym (walk .1 .0)) (walk .1 .1)))
 
--- ---- a row of the table: the counts as pairs of a level and how often, the thresholds from the start to rest, and the answer
+-- ---- a row of the table: the counts as pairs of a level and how often, the start, the thresholds from it to rest, and the answer
 pub record Row : Type 0 where
   pub counts : List (ℕ × ℕ)
   pub start-at : ℕ
   pub on-the-way : List Fraction
-  pub answer : Fraction
+  pub answer : Threshold
 
-abbrev row : List (ℕ × ℕ) → ℕ → List Fraction → Fraction → Row
-row counts start l U = record { counts = counts; start-at = start; on-the-way = l; answer = U }
+abbrev row : List (ℕ × ℕ) → ℕ → List Fraction → Threshold → Row
+row counts start l t = record { counts = counts; start-at = start; on-the-way = l; answer = t }
 
 -- a histogram of 256 counts
 abbrev pub histogram : List (ℕ × ℕ) → List ℕ
 histogram [] = replicate 256 0
 histogram (c ∷ cs) = set (histogram cs) (c .0) (c .1)
 
--- The row holds of a histogram: from the start v the thresholds are those of the walk, and the answer has as many rounds as the walk has
--- steps, and no other answer is permitted.
-abbrev pub Holds : List ℕ → ℕ → List Fraction → Fraction → Type 0
-Holds h v l U =
-    (start 128 h ≡ level v) × (Walk h (level v) l U × ((t : Threshold) → TwoMeansIs h t → t ≡ answered 0 (length l) U))
+-- The row holds of a histogram: from the start v the thresholds are those of the walk; and whatever the promise permits is t.
+abbrev pub Holds : List ℕ → ℕ → List Fraction → Threshold → Type 0
+Holds h v l t = (start 128 h ≡ level v) × (Walk h (level v) l (t .value) × ((u : Threshold) → TwoMeansIs h u → u ≡ t))
 
-module _ (h : List ℕ) (v : ℕ) (l : List Fraction) (U : Fraction) where
-  taken : Dec ((length h ≡ 256) × ((¬ (total h ≡ 0)) × (total h ≤ 1048576)))
-  taken = Dec·and (ℕ-discrete (length h) 256) (Dec·and (Dec·not (ℕ-discrete (total h) 0)) (decLe (total h) 1048576))
+-- none of 10 to 12 refuses the histogram; and an answer has number 0, and as many rounds as the walk has steps
+abbrev pub Taken : List ℕ → Type 0
+Taken h = (length h ≡ 256) × ((¬ (total h ≡ 0)) × (total h ≤ 1048576))
 
-  done : ¬ (total h ≡ 0) → start 128 h ≡ level v → Walk h (level v) l U → Done 128 h (answered 0 (length l) U)
+abbrev pub Stepped : List Fraction → Threshold → Type 0
+Stepped l t = (t .number ≡ 0) × (length l ≡ t .rounds)
+
+module _ (h : List ℕ) (v : ℕ) (l : List Fraction) (t : Threshold) where
+  tests : Dec (Taken h × (Stepped l t × ((start 128 h ≡ level v) × Walk h (level v) l (t .value))))
+  tests =
+      Dec·and
+      (Dec·and (ℕ-discrete (length h) 256) (Dec·and (Dec·not (ℕ-discrete (total h) 0)) (decLe (total h) 1048576)))
+      (Dec·and
+      (Dec·and (ℕ-discrete (t .number) 0) (ℕ-discrete (length l) (t .rounds)))
+      (Dec·and (one-pair-or-not (start 128 h) (level v)) (walks h (level v) l (t .value))))
+
+  -- then the promise permits the answer
+  pub permitted : Taken h → Stepped l t → start 128 h ≡ level v → Walk h (level v) l (t .value) → TwoMeansIs h t
   unfolding threshold
-  done not-empty starts walk =
-      let begun : Walk h (start 128 h) l U = subst (λ (R : Fraction). Walk h R l U) (sym starts) walk in
-      let walked = first-of 128 h l 0 U (λ j r. zero-le) begun in
-      let f = rw (zero-add (length l)) at walked in
-      record { number = refl; settled = subst (Settled 128 h (length l)) (f .1) (settled 128 h (pos-of-ne-zero not-empty) (length l) (f .0)) }
+  permitted taken stepped starts walk =
+      let begun : Walk h (start 128 h) l (t .value) = subst (λ (R : Fraction). Walk h R l (t .value)) (sym starts) walk in
+      let walked = first-of 128 h l 0 (t .value) (λ j r. zero-le) begun in
+      let f = rw (zero-add (length l), stepped .1) at walked in
+      let reached = settled 128 h (pos-of-ne-zero (taken .1 .0)) (t .rounds) (f .0) in
+      goes-on (taken .0) (goes-on (taken .1 .0) (goes-on (taken .1 .1)
+      (record { number = stepped .0; settled = subst (Settled 128 h (t .rounds)) (f .1) reached })))
 
-  holds : Option (Holds h v l U)
-  holds = elim (Dec·and taken (Dec·and (one-pair-or-not (start 128 h) (level v)) (walks h (level v) l U))) [
-    | yes p ↦
-        some (
-          p .1 .0,
-          (
-            p .1 .1,
-            λ t is.
-                one-threshold h t (answered 0 (length l) U) is
-                (goes-on (p .0 .0) (goes-on (p .0 .1 .0) (goes-on (p .0 .1 .1) (done (p .0 .1 .0) (p .1 .0) (p .1 .1))))),
-          ),
-        )
-    | no f ↦ none
-  ]
+  unfoldable pub holds : Option (Holds h v l t)
+  unfolding decLe ℕ-discrete Dec·and Dec·not when sum sumOver total start round within-or-not rests-or-not one-pair-or-not walks tests
+  holds =
+      Option·map (λ p.
+      let walk = p .1 .1 in
+      (walk .0, (walk .1, λ u is. one-threshold h u t is (permitted (p .0) (p .1 .0) (walk .0) (walk .1)))))
+      (when tests)
 
 -- the same of a row of the table
 abbrev pub RowHolds : Row → Type 0
@@ -98,22 +104,21 @@ RowHolds r = Holds (histogram (r .counts)) (r .start-at) (r .on-the-way) (r .ans
 row-holds : (r : Row) → Option (RowHolds r)
 row-holds r = holds (histogram (r .counts)) (r .start-at) (r .on-the-way) (r .answer)
 
--- the document's three, the histogram of its picture of all 40, and two of docs/why-it-rests.md
+-- the histogram of document 01's picture of all 40, and two of docs/why-it-rests.md
 abbrev pub table : List Row
 table =
-    row ((0, 1) ∷ (255, 1) ∷ []) 128 (fraction 255 2 ∷ []) (fraction 255 2)
-    ∷ row ((10, 3) ∷ (20, 1) ∷ []) 20 (fraction 130 8 ∷ fraction 90 6 ∷ []) (fraction 90 6)
-    ∷ row ((100, 1) ∷ (128, 1) ∷ (156, 1) ∷ []) 128 [] (fraction 1024 8)
-    ∷ row ((40, 256) ∷ []) 40 [] (fraction 5242880 131072)
-    ∷ row ((120, 1) ∷ (124, 1) ∷ (126, 1) ∷ []) 126 (fraction 748 6 ∷ fraction 496 4 ∷ fraction 988 8 ∷ fraction 490 4 ∷ []) (fraction 490 4)
-    ∷ row ((68, 1) ∷ (128, 18) ∷ (130, 3) ∷ (188, 1) ∷ []) 128 (fraction 106942 836 ∷ fraction 4378 44 ∷ []) (fraction 4378 44)
+    row ((40, 256) ∷ []) 40 [] (answered 0 0 (fraction 5242880 131072))
+    ∷ row ((120, 1) ∷ (124, 1) ∷ (126, 1) ∷ []) 126 (fraction 748 6 ∷ fraction 496 4 ∷ fraction 988 8 ∷ fraction 490 4 ∷ [])
+    (answered 0 4 (fraction 490 4))
+    ∷ row ((68, 1) ∷ (128, 18) ∷ (130, 3) ∷ (188, 1) ∷ []) 128 (fraction 106942 836 ∷ fraction 4378 44 ∷ [])
+    (answered 0 2 (fraction 4378 44))
     ∷ []
 
 pub worked : EveryRow RowHolds table
-unfolding decLe ℕ-discrete Dec·and Dec·not sum sumOver total start round within-or-not rests-or-not one-pair-or-not walks taken holds row-holds every-row
+unfolding holds row-holds every-row
 worked = get (every-row RowHolds row-holds table) tt
 
--- "though 121 and 135 rest too"
-pub also-rest : Rests (histogram ((100, 1) ∷ (128, 1) ∷ (156, 1) ∷ [])) (level 121) × Rests (histogram ((100, 1) ∷ (128, 1) ∷ (156, 1) ∷ [])) (level 135)
+-- ---- a threshold that rests, of which a histogram may have several
+unfoldable pub at-rest : (h : List ℕ) (T : Fraction) → Option (Rests h T)
 unfolding decLe ℕ-discrete Dec·and when sum sumOver total round within-or-not rests-or-not
-also-rest = (get (when (rests-or-not _ (level 121))) tt, get (when (rests-or-not _ (level 135))) tt)
+at-rest h T = when (rests-or-not h T)

@@ -29,7 +29,7 @@ pub record Filled (h : List ℕ) (n : ℕ) (counted summed : List ℕ) : Type 0 
 abbrev pub Tables : List ℕ → List ℕ → List ℕ → Type 0
 Tables h = Filled h (length h)
 
--- a histogram with which a round stays within 64 bits (2,048 levels, because a later request asks for 2,041)
+-- a histogram with which a round stays within 64 bits (2,048 levels, because document 02, P11, asks for 2,041)
 pub record Small (h : List ℕ) : Type 0 where
   pub levels : length h ≤ 2048
   pub values : total h ≤ 1048576

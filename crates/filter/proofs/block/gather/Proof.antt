@@ -1,4 +1,4 @@
--- `gather` meets its contract: after k turns k of the row's columns are put in (`Gathered`). Assumes nothing.
+-- `filter::block::gather` meets its contract: after k turns k of the row's columns are put in (`Gathered`). Assumes nothing.
 use Prim.Native.Nat.{_+_, _-_, _≤_}
 use mathlib.Core.Path.{_≡_, refl, _∙_}
 use denote.Ref.{now}

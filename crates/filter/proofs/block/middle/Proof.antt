@@ -1,4 +1,4 @@
--- `middle` meets its contract: both ranks lie among the n levels, and each level is at most 1,020. Assumes nothing.
+-- `filter::block::middle` meets its contract: both ranks lie among the n levels, and each level is at most 1,020. Assumes nothing.
 use Prim.Native.Nat.{_-_, _/_, _<_}
 use denote.Ref.{now}
 use lib.Seq.{getD-take}

@@ -1,4 +1,4 @@
--- `of_one` meets its contract: the row's columns are put in (`held`), and their median is read off. Assumes nothing.
+-- `filter::block::of_one` meets its contract: the row's columns are put in (`held`), and their median is read off. Assumes nothing.
 use Prim.Native.Nat.{_+_}
 use native.Mathlib.Omega.{arith}
 use borrow.Author.Needs.{needs}

@@ -1,4 +1,4 @@
--- `of_three` meets its contract: the three rows' columns are put in (`held`), and their median is read off. Assumes nothing.
+-- `filter::block::of_three` meets its contract: the three rows' columns are put in (`held`), and their median is read off. Assumes nothing.
 use Prim.Native.Nat.{ℕ, _+_}
 use mathlib.Core.List.{List, _++_}
 use native.Mathlib.Omega.{arith}

@@ -1,4 +1,4 @@
--- `ordered` meets its contract: below 32,768 the signed order is the order of natural numbers. Assumes nothing.
+-- `filter::block::ordered` meets its contract: below 32,768 the signed order is the order of natural numbers. Assumes nothing.
 use native.Mathlib.Omega.{arith}
 use mir.Syntax.{w16}
 use borrow.Author.Needs.{needs}

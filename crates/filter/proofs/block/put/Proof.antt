@@ -1,4 +1,4 @@
--- `put` meets its contract: after k turns k levels are passed and one is carried on (`passed`). Assumes nothing.
+-- `filter::block::put` meets its contract: after k turns k levels are passed and one is carried on (`passed`). Assumes nothing.
 use Prim.Native.Nat.{_-_, _≤_}
 use mathlib.Core.Path.{_≡_, refl, sym, _∙_}
 use denote.Ref.{now}

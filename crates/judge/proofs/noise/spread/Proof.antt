@@ -19,11 +19,11 @@ abbrev μ-loop : tie.MeasureT-loop
 loop-holds : tie.Need-loop-holds Inv-loop μ-loop
 loop-holds c = let a = c .before .before .args in (omega arith, sums-none (now (a .levels)) (now (a .filtered)))
 
-add-nearer : tie.Need-add-nearer Inv-loop μ-loop
-add-nearer c = omega arith
+add-smaller : tie.Need-add-smaller Inv-loop μ-loop
+add-smaller c = omega arith
 
-nearer-requires : tie.Need-nearer-requires Inv-loop μ-loop
-nearer-requires c κs = search needs
+smaller-requires : tie.Need-smaller-requires Inv-loop μ-loop
+smaller-requires c κs = search needs
 
 sub-stretch : tie.Need-sub-stretch Inv-loop μ-loop
 sub-stretch c = omega arith
@@ -52,7 +52,7 @@ stretch-requires c κs =
     let loop = near .before .before in
     let s = loop .before .before .before in
     let a = s .args in
-    stretch-pair (now (a .levels)) (now (a .filtered)) (s .pre) (loop .loop .at) (near .nearer .result) (omega arith) (omega arith) (omega arith)
+    stretch-pair (now (a .levels)) (now (a .filtered)) (s .pre) (loop .loop .at) (near .smaller .result) (omega arith) (omega arith) (omega arith)
 
 cast-squares : tie.Need-cast-squares Inv-loop μ-loop
 cast-squares c = omega arith
@@ -83,7 +83,7 @@ loop-again c =
     let s = loop .before .before .before in
     let a = s .args in
     let at = loop .loop .at in
-    let end = near .nearer .result in
+    let end = near .smaller .result in
     (omega arith, sums-stretch (now (a .levels)) (now (a .filtered)) (s .pre) at end (omega arith) (omega arith) (loop .loop .inv .1) (part .stretch .ensures))
 
 apart-requires : tie.Need-apart-requires Inv-loop μ-loop
@@ -122,8 +122,8 @@ spread-spec =
     Inv-loop
     μ-loop
     loop-holds
-    add-nearer
-    nearer-requires
+    add-smaller
+    smaller-requires
     sub-stretch
     part-stretch-start
     part-stretch-end

@@ -5,10 +5,11 @@ use native.Mathlib.Nat.{le-refl}
 use native.Mathlib.Omega.{arith}
 use lib.Dec.{lit<}
 use borrow.Author.Needs.{needs}
+use borrow.Author.Tests.{not-true, not-false}
 use Rattle.judge.specs.Wide.{value}
 use Rattle.judge.specs.Asked.{Under}
 use Rattle.judge.proofs.Places.{product-room}
-use Rattle.judge.proofs.Ratios.{answered-yes, answered-no, contrary, product, product-most, end-most, Sides, left-most, quotient-least, starts, found, none-found}
+use Rattle.judge.proofs.Ratios.{answered-yes, answered-no, product, product-most, end-most, Sides, left-most, quotient-least, starts, found, none-found}
 use Rattle.judge.proofs.ratio.ratio.Statement.{statement}
 use Rattle.judge.proofs.ratio.ratio.Tie as tie
 
@@ -33,7 +34,7 @@ sides c =
 
 -- past the test, 0 reaches
 zero-reaches : (c : tie.Else1) → let s = c .before .before in Under (left-value s) (right-value s) 0
-zero-reaches c = answered-yes _ _ (c .before .reaches .ensures) (contrary (c .if1 .left))
+zero-reaches c = answered-yes _ _ (c .before .reaches .ensures) (not-false _ (c .if1 .left))
 
 mul-product : tie.Need-mul-product
 mul-product c = search needs
@@ -59,7 +60,7 @@ reaches-requires : tie.Need-reaches-requires
 reaches-requires c κs = (zero-le, left-most (sides c) (given c .pre .3))
 
 returns : tie.Need-returns
-returns c = none-found (sides (c .before .before)) (answered-no _ _ (c .before .reaches .ensures) (contrary (c .if1 .taken)))
+returns c = none-found (sides (c .before .before)) (answered-no _ _ (c .before .reaches .ensures) (not-true _ (c .if1 .taken)))
 
 power-below-root-requires : tie.Need-power-below-root-requires
 power-below-root-requires c κs = let p = given (c .before .before) .pre in (p .2, p .3)

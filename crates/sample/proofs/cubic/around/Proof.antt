@@ -1,4 +1,4 @@
--- `cubic::around` meets its contract: each turn adds the next row, times its weight. Assumes nothing.
+-- `sample::cubic::around` meets its contract: each turn adds the next row, times its weight. Assumes nothing.
 use Prim.Native.Nat.{ℕ, _-_, _≤_}
 use mathlib.Core.Path.{_≡_, sym, ap, _∙_}
 use mathlib.Core.List.{List}

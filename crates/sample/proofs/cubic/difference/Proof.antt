@@ -1,4 +1,4 @@
--- `cubic::difference` meets its contract. Assumes nothing.
+-- `sample::cubic::difference` meets its contract. Assumes nothing.
 use mir.Syntax.{w64}
 use borrow.Author.Needs.{needs}
 use Rattle.numbers.proofs.Casts.{diff-fits, diff-gives}

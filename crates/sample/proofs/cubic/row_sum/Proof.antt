@@ -1,4 +1,4 @@
--- `cubic::row_sum` meets its contract: each turn adds the next term of the row. Assumes nothing.
+-- `sample::cubic::row_sum` meets its contract: each turn adds the next term of the row. Assumes nothing.
 use Prim.Native.Nat.{ℕ, _+_, _-_, _≤_}
 use mathlib.Core.Path.{_≡_, sym, _∙_}
 use mathlib.Core.List.{List}

@@ -1,4 +1,4 @@
--- `cubic::weight` meets its contract: each arm is one formula, and the last is that of the pixel that is left. Assumes nothing.
+-- `sample::cubic::weight` meets its contract: each arm is one formula, and the last is that of the pixel that is left. Assumes nothing.
 use Prim.Native.Nat.{_*_, _≤_}
 use mathlib.Core.Path.{_≡_, _∙_}
 use native.Mathlib.Omega.{arith}

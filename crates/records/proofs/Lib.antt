@@ -1,0 +1,4 @@
+pub mod Bodies
+pub mod Examples
+pub mod Outcomes
+pub mod Reading

@@ -1,0 +1,133 @@
+-- What a reader of records knows: the record at an offset is determined; a good one lies in the input, past its offset, and the
+-- next one begins later; a bad one has one of three numbers, and its offset. Assumes nothing.
+use mathlib.Core.Path.{_≡_, ap}
+use mathlib.Core.List.{List}
+use mathlib.Core.Logic.{_⊎_, inl, inr}
+use Prim.Native.Nat.{ℕ, _+_, _*_, _<_, _≤_}
+use native.Mathlib.Omega.{arith}
+use lib.Dec.{lit≤}
+use lib.ListN.{length}
+use Rattle.numbers.proofs.Refusals.{alike, together}
+use Rattle.units.specs.declared.Picometres.{Picometres}
+use Rattle.records.specs.declared.Record.{Record}
+use Rattle.records.specs.declared.Record.the-variants.{Picture, Pixel, End, Bad}
+use Rattle.units.specs.Units.{picometres}
+use Rattle.records.specs.Records.{byte, littleEndian, Known, bodyLength, byKind, RecordIs, numberOf, Follows}
+
+-- any two records that the promise permits at an offset are one
+pub one-record : (input : List ℕ) (at : ℕ) (r r' : Record) → RecordIs input at r → RecordIs input at r' → r ≡ r'
+one-record input at r r' = together alike (together alike (together alike (together alike alike)))
+
+-- ---- which of the four a record is, and its numbers
+abbrev which : Record → ℕ
+which (Picture side start end) = 1
+which (Pixel size end) = 2
+which End = 3
+which (Bad number offset) = 4
+
+abbrev sideOf : Record → ℕ
+sideOf (Picture side start end) = side
+sideOf (Pixel size end) = 0
+sideOf End = 0
+sideOf (Bad number offset) = 0
+
+-- where a body starts, or the offset of a bad record
+abbrev placeOf : Record → ℕ
+placeOf (Picture side start end) = start
+placeOf (Pixel size end) = 0
+placeOf End = 0
+placeOf (Bad number offset) = offset
+
+abbrev endOf : Record → ℕ
+endOf (Picture side start end) = end
+endOf (Pixel size end) = end
+endOf End = 0
+endOf (Bad number offset) = 0
+
+abbrev sizeOf : Record → Picometres
+sizeOf (Picture side start end) = picometres 0
+sizeOf (Pixel size end) = size
+sizeOf End = picometres 0
+sizeOf (Bad number offset) = picometres 0
+
+module _ (input : List ℕ) (at : ℕ) where
+  -- ---- a good record: the input is not too long, the record is one of three, by its kind, and its body is all there
+  abbrev pub Whole : Record → Type 0
+  Whole r =
+      (length input ≤ 32768)
+      × (((r ≡ Picture 16 (at + 1) (at + 1 + 256)) × (at + 1 + 256 ≤ length input))
+      ⊎ (((r ≡ Picture 64 (at + 1) (at + 1 + 4096)) × (at + 1 + 4096 ≤ length input))
+      ⊎ ((r ≡ Pixel (picometres (littleEndian input (at + 1))) (at + 1 + 4)) × (at + 1 + 4 ≤ length input))))
+
+  of-kind : (r : Record) (kind : ℕ) → length input ≤ 32768 → Known kind → at + 1 + bodyLength kind ≤ length input → r ≡ byKind input kind (at + 1) → Whole r
+  of-kind r kind few (inl e) there is = (few, inl (rw e at is, rw e at there))
+  of-kind r kind few (inr (inl e)) there is = (few, inr (inl (rw e at is, rw e at there)))
+  of-kind r kind few (inr (inr e)) there is = (few, inr (inr (rw e at is, rw e at there)))
+
+  pub whole : (r : Record) → which r ≤ 2 → RecordIs input at r → Whole r
+  whole r good (inl a) = let e = ap which (a .1) in absurd (let no : ⊥ = omega arith in no)
+  whole r good (inr (few, inl a)) = let e = ap which (a .1) in absurd (let no : ⊥ = omega arith in no)
+  whole r good (inr (few, inr (in-it, inl a))) = let e = ap which (a .1) in absurd (let no : ⊥ = omega arith in no)
+  whole r good (inr (few, inr (in-it, inr (known, inl a)))) = let e = ap which (a .1) in absurd (let no : ⊥ = omega arith in no)
+  whole r good (inr (few, inr (in-it, inr (known, inr (there, is))))) = of-kind r (byte input at) few known there is
+
+  -- a picture's levels: from past the kind byte on, side·side of them, all in the input
+  pub record Levels (side start end : ℕ) : Type 0 where
+    pub starts : start ≡ at + 1
+    pub ends : end ≡ start + side * side
+    pub side-is : (side ≡ 16) ⊎ (side ≡ 64)
+    pub most : end ≤ start + 4096
+    pub inside : end ≤ length input
+    pub few : length input ≤ 32768
+
+  levels : (side start end : ℕ) → Whole (Picture side start end) → Levels side start end
+  levels side start end (few, inl (is, there)) =
+      let s = ap sideOf is in let b = ap placeOf is in let e = ap endOf is in
+      record { starts = b; ends = rw s (omega arith); side-is = inl s; most = omega arith; inside = omega arith; few = few }
+  levels side start end (few, inr (inl (is, there))) =
+      let s = ap sideOf is in let b = ap placeOf is in let e = ap endOf is in
+      record { starts = b; ends = rw s (omega arith); side-is = inr s; most = omega arith; inside = omega arith; few = few }
+  levels side start end (few, inr (inr (is, there))) = let e = ap which is in absurd (let no : ⊥ = omega arith in no)
+
+  pub picture-lies : (side start end : ℕ) → RecordIs input at (Picture side start end) → Levels side start end
+  picture-lies side start end is = levels side start end (whole (Picture side start end) (lit≤ tt) is)
+
+  -- a pixel's size: its four bytes follow the kind byte, all in the input
+  pub record Size (size : Picometres) (end : ℕ) : Type 0 where
+    pub size-is : size ≡ picometres (littleEndian input (at + 1))
+    pub ends : end ≡ at + 5
+    pub inside : end ≤ length input
+    pub few : length input ≤ 32768
+
+  size-of : (size : Picometres) (end : ℕ) → Whole (Pixel size end) → Size size end
+  size-of size end (few, inl (is, there)) = let e = ap which is in absurd (let no : ⊥ = omega arith in no)
+  size-of size end (few, inr (inl (is, there))) = let e = ap which is in absurd (let no : ⊥ = omega arith in no)
+  size-of size end (few, inr (inr (is, there))) =
+      let e = ap endOf is in
+      record { size-is = ap sizeOf is; ends = omega arith; inside = omega arith; few = few }
+
+  pub pixel-lies : (size : Picometres) (end : ℕ) → RecordIs input at (Pixel size end) → Size size end
+  pixel-lies size end is = size-of size end (whole (Pixel size end) (lit≤ tt) is)
+
+  -- the record after a good one begins later, and no later than the input ends
+  pub moves-on : (r : Record) (next : ℕ) → RecordIs input at r → Follows r next → (at < next) × (next ≤ length input) × (length input ≤ 32768)
+  moves-on (Picture side start end) next is follows = let l = picture-lies side start end is in (omega arith, omega arith, l .few)
+  moves-on (Pixel size end) next is follows = let l = pixel-lies size end is in (omega arith, omega arith, l .few)
+  moves-on End next is follows = absurd follows
+  moves-on (Bad number offset) next is follows = absurd follows
+
+  -- a bad one has the number 18 and the offset 32,768, or the number 16 or 17 and its own offset
+  not-bad : (r : Record) → Whole r → which r ≤ 2
+  not-bad r (few, inl (is, there)) = let e = ap which is in omega arith
+  not-bad r (few, inr (inl (is, there))) = let e = ap which is in omega arith
+  not-bad r (few, inr (inr (is, there))) = let e = ap which is in omega arith
+
+  pub bad-is : (number offset : ℕ) → RecordIs input at (Bad number offset)
+      → ((number ≡ 18) × (offset ≡ 32768)) ⊎ (((number ≡ 16) ⊎ (number ≡ 17)) × (offset ≡ at))
+  bad-is number offset (inl a) = inl (ap numberOf (a .1), ap placeOf (a .1))
+  bad-is number offset (inr (few, inl a)) = let e = ap which (a .1) in absurd (let no : ⊥ = omega arith in no)
+  bad-is number offset (inr (few, inr (in-it, inl a))) = inr (inl (ap numberOf (a .1)), ap placeOf (a .1))
+  bad-is number offset (inr (few, inr (in-it, inr (known, inl a)))) = inr (inr (ap numberOf (a .1)), ap placeOf (a .1))
+  bad-is number offset (inr (few, inr (in-it, inr (known, inr (there, is))))) =
+      let good = not-bad (Bad number offset) (of-kind (Bad number offset) (byte input at) few known there is) in
+      absurd (let no : ⊥ = omega arith in no)
