@@ -1,8 +1,8 @@
 /* gong.h: Gongspindle for C, and for whatever else can call C.
  *
  * Gongspindle says, exactly and provably, whether a scanning electron microscope's picture may be
- * measured (ISO/TS 24597:2011). Every function declared here is proved to keep its promise for
- * every input; docs/PROMISES.md has the promises in words.
+ * measured (ISO/TS 24597:2011, with house rules: docs/DECISIONS.md). Every function declared here is
+ * proved to keep its promise for every input; docs/PROMISES.md has the promises in words.
  *
  * BUILDING      rt staticlib gong        makes target/staticlib/libgong.a, x86-64 code
  *               cc -Iinclude yours.c target/staticlib/libgong.a
@@ -26,7 +26,7 @@
  * UNITS         The unit stands at each parameter. Sixteenths of a pixel, picometres and eighths of
  *               a level are kept apart inside the library; C cannot, so mind which you pass.
  *
- * EXAMPLE
+ * EXAMPLE       (with <stdio.h> and <inttypes.h>)
  *               uint64_t length;
  *               uint8_t number = gong_length(32, 800, &length);
  *               if (number == GONG_DONE)

@@ -61,7 +61,7 @@ def sides(rng):
 
 
 def fill(rng):
-    """What a buffer holds before the call: only its low 16 bits count."""
+    """What a buffer holds before the call: only as many low bits count as an element has."""
     return wide(rng, rng.choice((16, 64)))
 
 

@@ -8,7 +8,7 @@ KINDS = (*SIDES, PIXEL)
 
 
 def album(rng):
-    """Pictures to draw from, by kind: few large ones, since the second program takes a tenth of a second for one."""
+    """Pictures to draw from, by kind: few large ones, since the second program takes its time for one."""
     def picture(side):
         if rng.random() < 0.7:
             return bytes(inputs.micrograph(rng, side, side))

@@ -121,7 +121,7 @@ RECORDS = [
     (pixel(800) + FORTY + b'\2', ['pixel 800', FORTY_LINE, 'bad 17 at 262']),
     # 32,768 bytes are taken, whole records or not; "Input too long gives only `bad 18 at 32768`."
     (FORTY * 126 + pixel(1) * 77 + b'\0', [FORTY_LINE] * 126 + ['pixel 1'] * 77 + ['bad 16 at 32767']),
-    (FORTY * 3 + pixel(1) * 6_399 + b'\3', [FORTY_LINE] * 3 + ['pixel 1'] * 6_399 + ['bad 17 at 32766']),
+    (FORTY * 3 + pixel(1) * 6_399 + b'\3\0', [FORTY_LINE] * 3 + ['pixel 1'] * 6_399 + ['bad 17 at 32766']),
     (PIXELS + b'\3\0\0', ['pixel 800'] * 6_553 + ['bad 17 at 32765']),
     (FORTY * 4 + pixel(1) * 6_348, [FORTY_LINE] * 4 + ['pixel 1'] * 6_348 + ['records 6352']),
     (PIXELS + b'\3\0\0\0', ['bad 18 at 32768']),

@@ -7,7 +7,7 @@
 --   two-means counts start after-each-round gives answered number rounds T
 --   level rests-in counts                           counts are pairs of a level and how many pixels have it
 --   sample width height levels x y gives sampled number value        x and y are `place i k`: pixel i, remainder k
---   length s p gives answer number length
+--   length s p gives sharpness number length
 --
 -- Rows.antt says the same in antt, and how a row is tested; src/main.rt runs the rest. Assumes nothing.
 use mathlib.Core.List.{List, [], _∷_}
@@ -19,7 +19,7 @@ use Rattle.numbers.proofs.Computed.{EveryRow, every-row}
 use Rattle.judge.specs.Judge.{verdict}
 use Rattle.threshold.specs.TwoMeans.{answered}
 use Rattle.sample.specs.Cubic.{sampled}
-use Rattle.length.specs.Length.{answer}
+use Rattle.length.specs.Length.{sharpness}
 use Rattle.cases.proofs.Rows.{Case, _gives_, _rests-in_, filter, first-pass, judge, two-means, sample, length}
 use Rattle.cases.proofs.Rows.{place, Holds, holds}
 
@@ -59,7 +59,7 @@ table =
     -- "* Four columns 0 0 255 255, four rows, both remainders 8: 8,556,380,160 (127.5 levels) at i = j = 1."
     ∷ sample 4 4 four-columns (place 1 8) (place 1 8) gives sampled 0 (pos 8_556_380_160)
     -- "* s = 32, p = 800: 1,131."
-    ∷ length 32 800 gives answer 0 1_131
+    ∷ length 32 800 gives sharpness 0 1_131
     ∷ []
 
 pub worked : EveryRow Holds table

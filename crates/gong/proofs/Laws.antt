@@ -19,11 +19,11 @@ use Rattle.sample.specs.declared.Sampled.{Sampled}
 use Rattle.sample.specs.Cubic.{sampled, SampleIs}
 use Rattle.sample.proofs.Outcomes.{one-sample}
 use Rattle.length.specs.declared.Sharpness.{Sharpness}
-use Rattle.length.specs.Length.{answer, LengthIs}
+use Rattle.length.specs.Length.{sharpness, LengthIs}
 use Rattle.length.proofs.Laws.{one-answer}
 
 -- an answer to the units is an answer to their numbers, and its length goes out as a plain number
-pub handed-on : {s s' : Sixteenths} {p p' : Picometres} {r : Sharpness} {q : ℕ} → s ≡ s' → p ≡ p' → q ≡ r .length .0 → LengthIs s p r → LengthIs s' p' (answer (r .number) q)
+pub handed-on : {s s' : Sixteenths} {p p' : Picometres} {r : Sharpness} {q : ℕ} → s ≡ s' → p ≡ p' → q ≡ r .length .0 → LengthIs s p r → LengthIs s' p' (sharpness (r .number) q)
 handed-on factor pixel length is = rw (length, ← factor, ← pixel) is
 
 -- and a verdict on M and m in eighths is a verdict on their numbers
@@ -77,9 +77,9 @@ module _ (levels : List ℕ) (w h : ℕ) (x y : ℤ) (n n' : ℕ) (v v' : ℤ) (
   one-value = (ap (λ (r : Sampled). r .number) same-sample, ap (λ (r : Sampled). r .value) same-sample)
 
 -- any two outcomes that `gong_length` is permitted, the number that it returns and the length that it writes, are equal
-module _ (factor : ℤ) (pixel : ℕ) (n q n' q' : ℕ) (this : LengthIs (sixteenths factor) (picometres pixel) (answer n q)) (that : LengthIs (sixteenths factor) (picometres pixel) (answer n' q')) where
-  same : answer n q ≡ answer n' q'
-  same = one-answer (sixteenths factor) (picometres pixel) (answer n q) (answer n' q') this that
+module _ (factor : ℤ) (pixel : ℕ) (n q n' q' : ℕ) (this : LengthIs (sixteenths factor) (picometres pixel) (sharpness n q)) (that : LengthIs (sixteenths factor) (picometres pixel) (sharpness n' q')) where
+  same : sharpness n q ≡ sharpness n' q'
+  same = one-answer (sixteenths factor) (picometres pixel) (sharpness n q) (sharpness n' q') this that
 
   pub one-length : (n ≡ n') × (q ≡ q')
   one-length = (ap (λ (r : Sharpness). r .number) same, ap (λ (r : Sharpness). r .length .0) same)

@@ -9,7 +9,7 @@ ghost use Rattle.threshold.specs.Histogram.{tally, CountIs};
 ghost use Rattle.numbers.specs.Fractions.{fraction};
 ghost use Rattle.threshold.specs.TwoMeans.{answered, TwoMeansIs};
 ghost use Rattle.sample.specs.Cubic.{sampled, SampleIs};
-ghost use Rattle.length.specs.Length.{answer, LengthIs};
+ghost use Rattle.length.specs.Length.{sharpness, LengthIs};
 use units::Eighths;
 use units::Picometres;
 use units::Sixteenths;
@@ -102,7 +102,7 @@ pub extern "C" fn gong_sample(
 // The length of a sharpness: factor in sixteenths of a pixel, pixel and length in picometres.
 #[no_mangle]
 pub extern "C" fn gong_length(factor: i64, pixel: u64, length: &mut u64) -> u8
-    ensures { λ r. ⌜ LengthIs (sixteenths factor) (picometres pixel) (answer r (now (length .exit))) ⌝ }
+    ensures { λ r. ⌜ LengthIs (sixteenths factor) (picometres pixel) (sharpness r (now (length .exit))) ⌝ }
 {
     let answer = length::length(Sixteenths::of(factor), Picometres::of(pixel));
     *length = answer.length.amount();

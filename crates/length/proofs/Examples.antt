@@ -12,7 +12,7 @@ use Rattle.numbers.proofs.Greatest.{by-neighbours}
 use Rattle.numbers.proofs.Computed.{when, EveryRow, every-row}
 use Rattle.units.specs.Units.{sixteenths, picometres}
 use Rattle.length.specs.declared.Sharpness.{Sharpness}
-use Rattle.length.specs.Length.{answer, LengthIs}
+use Rattle.length.specs.Length.{sharpness, LengthIs}
 use Rattle.length.proofs.Laws.{falling, Ranged, is-the-length, one-answer}
 
 -- ---- a row of the table: a factor and a pixel size, and what comes back
@@ -27,7 +27,7 @@ row f p n q = record { factor = f; pixel = p; number = n; length = q }
 
 -- the number and the length, and no other
 abbrev pub Holds : Row → Type 0
-Holds r = (s : Sharpness) → LengthIs (sixteenths (pos (r .factor))) (picometres (r .pixel)) s → s ≡ answer (r .number) (r .length)
+Holds r = (s : Sharpness) → LengthIs (sixteenths (pos (r .factor))) (picometres (r .pixel)) s → s ≡ sharpness (r .number) (r .length)
 
 -- ---- and the test
 module _ (f p n q : ℕ) where
@@ -38,14 +38,14 @@ module _ (f p n q : ℕ) where
       × ((n ≡ 0) × ((512 * (q * q) ≤ p * f * (p * f)) × (p * f * (p * f) < 512 * ((q + 1) * (q + 1)))))
 
   pub only : Tests → Holds (row f p n q)
-  only t s is = one-answer (sixteenths (pos f)) (picometres p) s (answer n q) is permitted
+  only t s is = one-answer (sixteenths (pos f)) (picometres p) s (sharpness n q) is permitted
     where
       ranged : Ranged f p
-      ranged = record { low = t .0 .0; high = t .0 .1 .0; small = t .0 .1 .1 .0; large = t .0 .1 .1 .1 }
+      ranged = record { factor-low = t .0 .0; factor-high = t .0 .1 .0; pixel-low = t .0 .1 .1 .0; pixel-high = t .0 .1 .1 .1 }
 
-      permitted : LengthIs (sixteenths (pos f)) (picometres p) (answer n q)
+      permitted : LengthIs (sixteenths (pos f)) (picometres p) (sharpness n q)
       permitted =
-          is-the-length (sixteenths (pos f)) (picometres p) ranged (answer n q) (t .1 .0)
+          is-the-length (sixteenths (pos f)) (picometres p) ranged (sharpness n q) (t .1 .0)
           (by-neighbours (falling (p * f * (p * f))) (t .1 .1 .0) (not-le-of-lt (t .1 .1 .1)))
 
   tests : Dec Tests

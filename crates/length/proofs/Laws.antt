@@ -12,7 +12,7 @@ use Rattle.numbers.proofs.Greatest.{Falling, one-greatest, next-has-not, reword
 use Rattle.units.specs.declared.Sixteenths.{Sixteenths}
 use Rattle.units.specs.declared.Picometres.{Picometres}
 use Rattle.length.specs.declared.Sharpness.{Sharpness}
-use Rattle.length.specs.Length.{InRange, Reaches, Done, answer, LengthIs}
+use Rattle.length.specs.Length.{InRange, Reaches, Done, sharpness, LengthIs}
 
 -- what is at most t stays so for each smaller number
 pub falling : (t : ℕ) → Falling (λ q. 512 * (q * q) ≤ t)
@@ -20,33 +20,33 @@ falling t j k le h = le-trans (mul-le-mul-left 512 (mul-le-mul le le)) h
 
 -- the ranges, of natural numbers
 pub record Ranged (f p : ℕ) : Type 0 where
-  pub low : 1 ≤ f
-  pub high : f ≤ 16384
-  pub small : 1 ≤ p
-  pub large : p ≤ 100000
+  pub factor-low : 1 ≤ f
+  pub factor-high : f ≤ 16384
+  pub pixel-low : 1 ≤ p
+  pub pixel-high : p ≤ 100000
 
 -- what is in range is so as a natural number
 pub to-natural : (s : Sixteenths) (p : Picometres) → InRange s p → Ranged (natOf (s .0)) (p .0)
 to-natural s p ok =
     record {
-      low = low-natural (s .0) (ok .factor-low);
-      high = high-natural (s .0) (ok .factor-high);
-      small = ok .pixel-low;
-      large = ok .pixel-high;
+      factor-low = low-natural (s .0) (ok .factor-low);
+      factor-high = high-natural (s .0) (ok .factor-high);
+      pixel-low = ok .pixel-low;
+      pixel-high = ok .pixel-high;
     }
 
 -- and the other way round; then what halving finds is the document's length
 module _ (s : Sixteenths) (p : Picometres) (ok : Ranged (natOf (s .0)) (p .0)) where
   whole : s .0 ≡ pos (natOf (s .0))
-  whole = positive (s .0) (ok .low)
+  whole = positive (s .0) (ok .factor-low)
 
   in-range : InRange s p
   in-range =
       record {
-        factor-low = rw whole (to-ℤ (ok .low));
-        factor-high = rw whole (to-ℤ (ok .high));
-        pixel-low = ok .small;
-        pixel-high = ok .large;
+        factor-low = rw whole (to-ℤ (ok .factor-low));
+        factor-high = rw whole (to-ℤ (ok .factor-high));
+        pixel-low = ok .pixel-low;
+        pixel-high = ok .pixel-high;
       }
 
   greatest : {q : ℕ} → Greatest (λ k. 512 * (k * k) ≤ p .0 * natOf (s .0) * (p .0 * natOf (s .0))) q → Greatest (Reaches s p) q
@@ -57,7 +57,7 @@ module _ (s : Sixteenths) (p : Picometres) (ok : Ranged (natOf (s .0)) (p .0)) w
 
 -- the product and its square have room in 64 bits
 pub product : {f p : ℕ} → Ranged f p → p * f ≤ 1638400000
-product ok = mul-le-mul (ok .large) (ok .high)
+product ok = mul-le-mul (ok .pixel-high) (ok .factor-high)
 
 pub squared : {t : ℕ} → t ≤ 1638400000 → t * t ≤ 1638400000 * 1638400000
 squared h = mul-le-mul h h
@@ -73,9 +73,9 @@ start x =
           omega (arith, mul-le-mul above above));
     }
 
--- an answer is its two numbers
+-- what comes back is its two numbers
 pub same-answer : {r r' : Sharpness} → r .number ≡ r' .number → r .length .0 ≡ r' .length .0 → r ≡ r'
-same-answer {r} {r'} number length = ap (λ (n : ℕ). answer n (r .length .0)) number ∙ ap (answer (r' .number)) length
+same-answer {r} {r'} number length = ap (λ (n : ℕ). sharpness n (r .length .0)) number ∙ ap (sharpness (r' .number)) length
 
 -- the length is rounded down: q picometres are at most the sharpness, and q + 1 are not
 pub rounded-down : (s : Sixteenths) (p : Picometres) (r : Sharpness) → Done s p r → Reaches s p (r .length .0) × (¬ Reaches s p (r .length .0 + 1))

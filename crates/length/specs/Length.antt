@@ -28,13 +28,13 @@ pub record Done (s : Sixteenths) (p : Picometres) (r : Sharpness) : Type 0 where
   pub number : r .number ≡ 0
   pub length : Greatest (Reaches s p) (r .length .0)
 
--- an answer by its two numbers
-abbrev pub answer : ℕ → ℕ → Sharpness
-answer n q = record { number = n; length = picometres q }
+-- what comes back, by its two numbers
+abbrev pub sharpness : ℕ → ℕ → Sharpness
+sharpness n q = record { number = n; length = picometres q }
 
 -- a refusal: the number, and "All other returned numbers are 0"
 abbrev pub refused : ℕ → Sharpness
-refused n = answer n 0
+refused n = sharpness n 0
 
 -- "14 | s or p out of range"
 abbrev pub LengthIs : Sixteenths → Picometres → Sharpness → Type 0

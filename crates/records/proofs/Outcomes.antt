@@ -32,11 +32,11 @@ sideOf End = 0
 sideOf (Bad number offset) = 0
 
 -- where a body starts, or the offset of a bad record
-abbrev placeOf : Record → ℕ
-placeOf (Picture side start end) = start
-placeOf (Pixel size end) = 0
-placeOf End = 0
-placeOf (Bad number offset) = offset
+abbrev startOf : Record → ℕ
+startOf (Picture side start end) = start
+startOf (Pixel size end) = 0
+startOf End = 0
+startOf (Bad number offset) = offset
 
 abbrev endOf : Record → ℕ
 endOf (Picture side start end) = end
@@ -82,10 +82,10 @@ module _ (input : List ℕ) (at : ℕ) where
 
   levels : (side start end : ℕ) → Whole (Picture side start end) → Levels side start end
   levels side start end (few, inl (is, there)) =
-      let s = ap sideOf is in let b = ap placeOf is in let e = ap endOf is in
+      let s = ap sideOf is in let b = ap startOf is in let e = ap endOf is in
       record { starts = b; ends = rw s (omega arith); side-is = inl s; most = omega arith; inside = omega arith; few = few }
   levels side start end (few, inr (inl (is, there))) =
-      let s = ap sideOf is in let b = ap placeOf is in let e = ap endOf is in
+      let s = ap sideOf is in let b = ap startOf is in let e = ap endOf is in
       record { starts = b; ends = rw s (omega arith); side-is = inr s; most = omega arith; inside = omega arith; few = few }
   levels side start end (few, inr (inr (is, there))) = let e = ap which is in absurd (let no : ⊥ = omega arith in no)
 
@@ -124,10 +124,10 @@ module _ (input : List ℕ) (at : ℕ) where
 
   pub bad-is : (number offset : ℕ) → RecordIs input at (Bad number offset)
       → ((number ≡ 18) × (offset ≡ 32768)) ⊎ (((number ≡ 16) ⊎ (number ≡ 17)) × (offset ≡ at))
-  bad-is number offset (inl a) = inl (ap numberOf (a .1), ap placeOf (a .1))
+  bad-is number offset (inl a) = inl (ap numberOf (a .1), ap startOf (a .1))
   bad-is number offset (inr (few, inl a)) = let e = ap which (a .1) in absurd (let no : ⊥ = omega arith in no)
-  bad-is number offset (inr (few, inr (in-it, inl a))) = inr (inl (ap numberOf (a .1)), ap placeOf (a .1))
-  bad-is number offset (inr (few, inr (in-it, inr (known, inl a)))) = inr (inr (ap numberOf (a .1)), ap placeOf (a .1))
+  bad-is number offset (inr (few, inr (in-it, inl a))) = inr (inl (ap numberOf (a .1)), ap startOf (a .1))
+  bad-is number offset (inr (few, inr (in-it, inr (known, inl a)))) = inr (inr (ap numberOf (a .1)), ap startOf (a .1))
   bad-is number offset (inr (few, inr (in-it, inr (known, inr (there, is))))) =
       let good = not-bad (Bad number offset) (of-kind (Bad number offset) (byte input at) few known there is) in
       absurd (let no : ⊥ = omega arith in no)

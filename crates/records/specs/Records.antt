@@ -11,11 +11,11 @@ use Rattle.units.specs.Units.{picometres}
 use Rattle.records.specs.declared.Record.{Record}
 use Rattle.records.specs.declared.Record.the-variants.{Picture, Pixel, End, Bad}
 
--- the byte at a place of the input
+-- the byte at an offset of the input
 abbrev pub byte : List ℕ → ℕ → ℕ
 byte input i = getD input i 0
 
--- "4 bytes, little-endian": those from a place on
+-- "4 bytes, little-endian": those from an offset on
 abbrev pub littleEndian : List ℕ → ℕ → ℕ
 littleEndian input i = byte input i + 256 * byte input (i + 1) + 65536 * byte input (i + 2) + 16777216 * byte input (i + 3)
 
@@ -28,7 +28,7 @@ Known kind = (kind ≡ 1) ⊎ ((kind ≡ 2) ⊎ (kind ≡ 3))
 abbrev pub bodyLength : ℕ → ℕ
 bodyLength kind = cond (eqb kind 1) 256 (cond (eqb kind 2) 4096 4)
 
--- a record by its kind, whose body starts at a place: it ends where the length of its kind says
+-- a record by its kind, whose body starts at an offset: it ends where the length of its kind says
 abbrev pub byKind : List ℕ → ℕ → ℕ → Record
 byKind input kind start =
     cond (eqb kind 1) (Picture 16 start (start + bodyLength kind))
@@ -45,7 +45,7 @@ RecordIs input at r =
     (Unless (at + 1 + bodyLength (byte input at) ≤ length input) (r ≡ Bad 17 at)
     (r ≡ byKind input (byte input at) (at + 1)))))
 
--- "When an answer is an enum, the promises use a definition that gives this paper's number .. for each of the enum's cases."
+-- "a definition that gives this paper's number .. for each of the enum's cases"; their values are those that `RecordIs` names
 abbrev pub numberOf : Record → ℕ
 numberOf (Picture side start end) = 0
 numberOf (Pixel size end) = 0
@@ -59,7 +59,7 @@ Follows (Pixel size end) next = next ≡ end
 Follows End next = ⊥
 Follows (Bad number offset) next = ⊥
 
--- nothing follows the end of the input, nor a bad record: it "gives .. the last line"
+-- nothing follows the end of the input, nor a bad record, which gives its line "as the last line"
 abbrev pub Last : Record → Type 0
 Last (Picture side start end) = ⊥
 Last (Pixel size end) = ⊥

@@ -57,7 +57,7 @@ returns-4 c = stops (λ ok. omega (arith, passes (c .before .before .before .bef
 
 -- past the four tests both are in range
 ranged : (c : tie.Else4) → Ranged (c .before .before .before .before .before .natural .result) (c .before .before .before .before .amount2 .result)
-ranged c = record { low = omega arith; high = omega arith; small = omega arith; large = omega arith }
+ranged c = record { factor-low = omega arith; factor-high = omega arith; pixel-low = omega arith; pixel-high = omega arith }
 
 mul-product : tie.Need-mul-product
 mul-product c = omega (arith, product (ranged c))
