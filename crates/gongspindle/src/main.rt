@@ -4,11 +4,13 @@
 mod print;
 
 ghost use mathlib.Core.Path.{_≡_};
-ghost use Prim.Native.Nat.{_≤_};
 ghost use lib.ListN.{length};
+ghost use Rattle.gongspindle.specs.Line.{Square, LineIs};
 ghost use Rattle.gongspindle.specs.Turns.{TurnIs};
+use judge::Verdict;
 use libc::STDIN_FILENO;
 use records::Record;
+use threshold::Threshold;
 
 // Where the next record begins; or nothing, after the last line.
 enum Next {
@@ -22,7 +24,8 @@ fn turn(input: &[u8], at: usize, good: u64) -> Next
 {
     match records::record_at(input, at) {
         Record::Picture { side, start, end } => {
-            picture(&input[start..end], side);
+            let line = line_of(&input[start..end], side);
+            print::picture(side, line.verdict, line.threshold);
             Next::At(end)
         }
         Record::Pixel { size, end } => {
@@ -53,10 +56,17 @@ fn report(input: &[u8]) {
     }
 }
 
+// What a picture's line says, besides its sides.
+struct Line {
+    verdict: Verdict,
+    threshold: Threshold,
+}
+
 // A picture is measured, what it was filtered to is counted, and the counts have a threshold: also
 // where the picture is discarded.
-fn picture(levels: &[u8], side: usize)
-    requires { ⌜ length (now levels) ≤ 4096 ⌝ }
+fn line_of(levels: &[u8], side: usize) -> Line
+    requires { ⌜ Square side (now levels) ⌝ }
+    ensures { λ r. ⌜ LineIs (now (levels .entry)) side r ⌝ }
 {
     let n = levels.len();
     let mut output = value_space();
@@ -64,7 +74,8 @@ fn picture(levels: &[u8], side: usize)
     let mut histogram = [0u32; 256];
     let verdict = judge::measure(levels, side, side, &mut output, &mut work);
     threshold::count(&output[..n], &mut histogram);
-    print::picture(side, verdict, threshold::two_means(&histogram));
+    let threshold = threshold::two_means(&histogram);
+    Line { verdict, threshold }
 }
 
 // As many values as the larger picture has.

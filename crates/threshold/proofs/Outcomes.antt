@@ -19,7 +19,7 @@ use Rattle.threshold.proofs.Demand.{one-rounds, one-answer}
 
 -- ---- counting
 -- two histograms of the same values are one
-one-histogram : (values : List ℕ) (a b : Tally) → Counted values a → Counted values b → a .histogram ≡ b .histogram
+pub one-histogram : (values : List ℕ) (a b : Tally) → Counted values a → Counted values b → a .histogram ≡ b .histogram
 one-histogram values a b p q =
     ext-getD 0 (a .histogram) (b .histogram) (alike (p .places) (q .places))
     (λ v h. let here : v < 256 = omega (arith, p .places) in alike (p .counts v here) (q .counts v here))

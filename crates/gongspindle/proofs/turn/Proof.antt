@@ -4,7 +4,7 @@ use native.Mathlib.Omega.{arith}
 use borrow.Author.Needs.{needs}
 use denote.Ref.{now}
 use Prim.Native.Nat.{_-_}
-use lib.ListN.{drop, length-take}
+use lib.ListN.{drop, length-take, length-drop}
 use Rattle.records.specs.declared.Record.{Record}
 use Rattle.records.specs.declared.Record.the-variants.{End}
 use Rattle.records.specs.Records.{RecordIs}
@@ -29,21 +29,24 @@ record-at-requires c κs = search needs
 enum-known-side : tie.Need-enum-known-side
 enum-known-side c = search needs
 
-sub-picture : tie.Need-sub-picture
-sub-picture c = omega (arith, levels (c .before))
+sub-line-of : tie.Need-sub-line-of
+sub-line-of c = omega (arith, levels (c .before))
 
-part-picture-start : tie.Need-part-picture-start
-part-picture-start c = omega (arith, levels (c .before))
+part-line-of-start : tie.Need-part-line-of-start
+part-line-of-start c = omega (arith, levels (c .before))
 
-part-picture-end : tie.Need-part-picture-end
-part-picture-end c = omega (arith, levels (c .before))
+part-line-of-end : tie.Need-part-line-of-end
+part-line-of-end c = omega (arith, levels (c .before))
 
-picture-requires : tie.Need-picture-requires
-picture-requires c κs =
+line-of-requires : tie.Need-line-of-requires
+line-of-requires c κs =
     let l = levels (c .before .before) in
     let x = c .before .before .side .given .0 in
     let i = now (c .before .before .before .before .before .before .args .input) in
-    omega (arith, length-take (x .1 .1 .0 - x .1 .0) (drop (x .1 .0) i))
+    (l .side-is, omega (arith, length-take (x .1 .1 .0 - x .1 .0) (drop (x .1 .0) i), length-drop (x .1 .0) i))
+
+picture-requires : tie.Need-picture-requires
+picture-requires c κs = search needs
 
 enum-known-size : tie.Need-enum-known-size
 enum-known-size c = search needs
@@ -64,7 +67,7 @@ bad-requires : tie.Need-bad-requires
 bad-requires c κs = search needs
 
 returns : tie.Need-returns
-returns c = let w = c .before .before .before in (_, (looked (w .before .before) _ (w .side .given .1), refl))
+returns c = let w = c .before .before .before .before in (_, (looked (w .before .before) _ (w .side .given .1), refl))
 
 returns-2 : tie.Need-returns-2
 returns-2 c = let w = c .before .before in (_, (looked (w .before .before) _ (w .size .given .1), refl))
@@ -81,9 +84,10 @@ turn-spec =
     (tie.spec
     record-at-requires
     enum-known-side
-    sub-picture
-    part-picture-start
-    part-picture-end
+    sub-line-of
+    part-line-of-start
+    part-line-of-end
+    line-of-requires
     picture-requires
     enum-known-size
     pixel-requires
