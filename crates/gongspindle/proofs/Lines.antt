@@ -18,22 +18,22 @@ use Rattle.threshold.specs.Histogram.{Countable, tally, Counted, CountIs}
 use Rattle.threshold.specs.TwoMeans.{TwoMeansIs}
 use Rattle.threshold.proofs.Outcomes.{one-histogram, one-threshold}
 use Rattle.gongspindle.specs.declared.Line.{Line}
-use Rattle.gongspindle.specs.Line.{Square, LineIs}
+use Rattle.gongspindle.specs.Line.{SquarePicture, LineIs}
 
 -- a side of 16 or 64 is in range and a multiple of 4, and its square has room in 4,096 places
-pub record Fit (side : ℕ) : Type 0 where
+pub record GoodSide (side : ℕ) : Type 0 where
   pub in-range : Side side
   pub by-four : side % 4 ≡ 0
   pub some : 1 ≤ side * side
   pub few : side * side ≤ 4096
 
-pub fit : {side : ℕ} → (side ≡ 16) ⊎ (side ≡ 64) → Fit side
-fit (inl e) = rw e (record { in-range = (lit≤ tt, lit≤ tt); by-four = refl; some = lit≤ tt; few = lit≤ tt })
-fit (inr e) = rw e (record { in-range = (lit≤ tt, lit≤ tt); by-four = refl; some = lit≤ tt; few = lit≤ tt })
+pub good-side : {side : ℕ} → (side ≡ 16) ⊎ (side ≡ 64) → GoodSide side
+good-side (inl e) = rw e (record { in-range = (lit≤ tt, lit≤ tt); by-four = refl; some = lit≤ tt; few = lit≤ tt })
+good-side (inr e) = rw e (record { in-range = (lit≤ tt, lit≤ tt); by-four = refl; some = lit≤ tt; few = lit≤ tt })
 
-module _ (levels : List ℕ) (side : ℕ) (square : Square side levels) where
-  abbrev F : Fit side
-  F = fit (square .0)
+module _ (levels : List ℕ) (side : ℕ) (square : SquarePicture side levels) where
+  abbrev F : GoodSide side
+  F = good-side (square .0)
 
   -- so measuring refuses nothing
   measured : (output work : List ℕ) (r : Measurement) → 4096 ≡ length output → 4096 ≡ length work → MeasureIs levels side side output work r

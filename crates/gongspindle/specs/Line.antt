@@ -12,8 +12,8 @@ use Rattle.threshold.specs.TwoMeans.{TwoMeansIs}
 use Rattle.gongspindle.specs.declared.Line.{Line}
 
 -- "a 16×16 picture", "a 64×64 picture"
-abbrev pub Square : ℕ → List ℕ → Type 0
-Square side levels = ((side ≡ 16) ⊎ (side ≡ 64)) × (length levels ≡ side * side)
+abbrev pub SquarePicture : ℕ → List ℕ → Type 0
+SquarePicture side levels = ((side ≡ 16) ⊎ (side ≡ 64)) × (length levels ≡ side * side)
 
 -- number and q are the judge's verdict on the picture; rounds and the fraction are those of its filtered levels, counted
 pub record LineIs (levels : List ℕ) (side : ℕ) (l : Line) : Type 0 where

@@ -5,7 +5,7 @@ mod print;
 
 ghost use mathlib.Core.Path.{_≡_};
 ghost use lib.ListN.{length};
-ghost use Rattle.gongspindle.specs.Line.{Square, LineIs};
+ghost use Rattle.gongspindle.specs.Line.{SquarePicture, LineIs};
 ghost use Rattle.gongspindle.specs.Turns.{TurnIs};
 use judge::Verdict;
 use libc::STDIN_FILENO;
@@ -65,7 +65,7 @@ struct Line {
 // A picture is measured, what it was filtered to is counted, and the counts have a threshold: also
 // where the picture is discarded.
 fn line_of(levels: &[u8], side: usize) -> Line
-    requires { ⌜ Square side (now levels) ⌝ }
+    requires { ⌜ SquarePicture side (now levels) ⌝ }
     ensures { λ r. ⌜ LineIs (now (levels .entry)) side r ⌝ }
 {
     let n = levels.len();

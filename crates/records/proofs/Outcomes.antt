@@ -18,12 +18,15 @@ use Rattle.records.specs.Records.{byte, littleEndian, Known, bodyLength,
 pub one-record : (input : List ℕ) (at : ℕ) (r r' : Record) → RecordIs input at r → RecordIs input at r' → r ≡ r'
 one-record input at r r' = together alike (together alike (together alike (together alike alike)))
 
--- ---- which of the four a record is, and its numbers
+-- ---- which of the four a record is: a record of one case is none of another; and its numbers
 abbrev which : Record → ℕ
 which (Picture side start end) = 1
 which (Pixel size end) = 2
 which End = 3
 which (Bad number offset) = 4
+
+conflict : {C : Type 0} {r x : Record} → r ≡ x → ¬ (which r ≡ which x) → C
+conflict e apart = absurd (apart (ap which e))
 
 abbrev sideOf : Record → ℕ
 sideOf (Picture side start end) = side
@@ -52,7 +55,7 @@ sizeOf (Bad number offset) = picometres 0
 
 module _ (input : List ℕ) (at : ℕ) where
   -- ---- a good record: the input is not too long, the record is one of three, by its kind, and its body is all there
-  abbrev pub Whole : Record → Type 0
+  abbrev Whole : Record → Type 0
   Whole r =
       (length input ≤ 32768)
       × (((r ≡ Picture 16 (at + 1) (at + 1 + 256)) × (at + 1 + 256 ≤ length input))
@@ -64,11 +67,11 @@ module _ (input : List ℕ) (at : ℕ) where
   of-kind r kind few (inr (inl e)) there is = (few, inr (inl (rw e at is, rw e at there)))
   of-kind r kind few (inr (inr e)) there is = (few, inr (inr (rw e at is, rw e at there)))
 
-  pub whole : (r : Record) → which r ≤ 2 → RecordIs input at r → Whole r
-  whole r good (inl a) = let e = ap which (a .1) in absurd (let no : ⊥ = omega arith in no)
-  whole r good (inr (few, inl a)) = let e = ap which (a .1) in absurd (let no : ⊥ = omega arith in no)
-  whole r good (inr (few, inr (in-it, inl a))) = let e = ap which (a .1) in absurd (let no : ⊥ = omega arith in no)
-  whole r good (inr (few, inr (in-it, inr (known, inl a)))) = let e = ap which (a .1) in absurd (let no : ⊥ = omega arith in no)
+  whole : (r : Record) → which r ≤ 2 → RecordIs input at r → Whole r
+  whole r good (inl a) = conflict (a .1) (λ e. omega arith)
+  whole r good (inr (few, inl a)) = conflict (a .1) (λ e. omega arith)
+  whole r good (inr (few, inr (in-it, inl a))) = conflict (a .1) (λ e. omega arith)
+  whole r good (inr (few, inr (in-it, inr (known, inl a)))) = conflict (a .1) (λ e. omega arith)
   whole r good (inr (few, inr (in-it, inr (known, inr (there, is))))) = of-kind r (byte input at) few known there is
 
   -- a picture's levels: from past the kind byte on, side·side of them, all in the input
@@ -76,18 +79,17 @@ module _ (input : List ℕ) (at : ℕ) where
     pub starts : start ≡ at + 1
     pub ends : end ≡ start + side * side
     pub side-is : (side ≡ 16) ⊎ (side ≡ 64)
-    pub most : end ≤ start + 4096
     pub inside : end ≤ length input
     pub few : length input ≤ 32768
 
   levels : (side start end : ℕ) → Whole (Picture side start end) → Levels side start end
   levels side start end (few, inl (is, there)) =
       let s = ap sideOf is in let b = ap startOf is in let e = ap endOf is in
-      record { starts = b; ends = rw s (omega arith); side-is = inl s; most = omega arith; inside = omega arith; few = few }
+      record { starts = b; ends = rw s (omega arith); side-is = inl s; inside = omega arith; few = few }
   levels side start end (few, inr (inl (is, there))) =
       let s = ap sideOf is in let b = ap startOf is in let e = ap endOf is in
-      record { starts = b; ends = rw s (omega arith); side-is = inr s; most = omega arith; inside = omega arith; few = few }
-  levels side start end (few, inr (inr (is, there))) = let e = ap which is in absurd (let no : ⊥ = omega arith in no)
+      record { starts = b; ends = rw s (omega arith); side-is = inr s; inside = omega arith; few = few }
+  levels side start end (few, inr (inr (is, there))) = conflict is (λ e. omega arith)
 
   pub picture-lies : (side start end : ℕ) → RecordIs input at (Picture side start end) → Levels side start end
   picture-lies side start end is = levels side start end (whole (Picture side start end) (lit≤ tt) is)
@@ -100,8 +102,8 @@ module _ (input : List ℕ) (at : ℕ) where
     pub few : length input ≤ 32768
 
   size-of : (size : Picometres) (end : ℕ) → Whole (Pixel size end) → Size size end
-  size-of size end (few, inl (is, there)) = let e = ap which is in absurd (let no : ⊥ = omega arith in no)
-  size-of size end (few, inr (inl (is, there))) = let e = ap which is in absurd (let no : ⊥ = omega arith in no)
+  size-of size end (few, inl (is, there)) = conflict is (λ e. omega arith)
+  size-of size end (few, inr (inl (is, there))) = conflict is (λ e. omega arith)
   size-of size end (few, inr (inr (is, there))) =
       let e = ap endOf is in
       record { size-is = ap sizeOf is; ends = omega arith; inside = omega arith; few = few }
@@ -116,16 +118,17 @@ module _ (input : List ℕ) (at : ℕ) where
   moves-on End next is follows = absurd follows
   moves-on (Bad number offset) next is follows = absurd follows
 
-  -- a bad one has the number 18 and the offset 32,768, or the number 16 or 17 and its own offset
+  -- a good one is not bad
   not-bad : (r : Record) → Whole r → which r ≤ 2
   not-bad r (few, inl (is, there)) = let e = ap which is in omega arith
   not-bad r (few, inr (inl (is, there))) = let e = ap which is in omega arith
   not-bad r (few, inr (inr (is, there))) = let e = ap which is in omega arith
 
+  -- a bad one has the number 18 and the offset 32,768, or the number 16 or 17 and its own offset
   pub bad-is : (number offset : ℕ) → RecordIs input at (Bad number offset)
       → ((number ≡ 18) × (offset ≡ 32768)) ⊎ (((number ≡ 16) ⊎ (number ≡ 17)) × (offset ≡ at))
   bad-is number offset (inl a) = inl (ap numberOf (a .1), ap startOf (a .1))
-  bad-is number offset (inr (few, inl a)) = let e = ap which (a .1) in absurd (let no : ⊥ = omega arith in no)
+  bad-is number offset (inr (few, inl a)) = conflict (a .1) (λ e. omega arith)
   bad-is number offset (inr (few, inr (in-it, inl a))) = inr (inl (ap numberOf (a .1)), ap startOf (a .1))
   bad-is number offset (inr (few, inr (in-it, inr (known, inl a)))) = inr (inr (ap numberOf (a .1)), ap startOf (a .1))
   bad-is number offset (inr (few, inr (in-it, inr (known, inr (there, is))))) =

@@ -1,4 +1,5 @@
--- Reading a whole input, record by record: it always comes to an end, and in one way only. Assumes nothing.
+-- Reading a whole input, record by record: it always comes to an end, after as many good records and at the same last one however it is
+-- read. Assumes nothing.
 use mathlib.Core.Path.{_≡_, refl, sym, subst, ap, _∙_}
 use mathlib.Core.List.{List}
 use mathlib.Core.Logic.{inl, inr}

@@ -6,7 +6,7 @@ use Prim.Native.Nat.{_≤_}
 use denote.Ref.{now}
 use lib.ListN.{length}
 use lib.Seq.{length-take-le}
-use Rattle.gongspindle.proofs.Lines.{fit, line}
+use Rattle.gongspindle.proofs.Lines.{good-side, line}
 use Rattle.gongspindle.proofs.line_of.Statement.{statement}
 use Rattle.gongspindle.proofs.line_of.Tie as tie
 
@@ -15,7 +15,7 @@ room : (c : tie.After-measure) → let s = c .before .before .before .before .be
 room c =
     let two = c .before .before .before in
     let s = two .before .before .before in
-    omega (arith, c .measure .kept, two .before .value-space .ensures, s .pre .1, fit (s .pre .0) .few)
+    omega (arith, c .measure .kept, two .before .value-space .ensures, s .pre .1, good-side (s .pre .0) .few)
 
 value-space-requires : tie.Need-value-space-requires
 value-space-requires c κs = search needs
