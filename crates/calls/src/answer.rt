@@ -1,31 +1,61 @@
 // What goes to standard output, by way of a block: text is put into the block, and the block is
-// written when it is nearly full and at the end of an answer. `at` is where the text in it ends.
-ghost use Prim.Native.Nat.{_+_, _≤_, _<_};
-ghost use lib.IntN.{pos, natAbs};
-ghost use lib.ListN.{length};
-ghost use lib.Signed.{ltZ};
-ghost use mathlib.Core.Bool.{true};
+// written when it is nearly full and at the end of an answer. What the digits are is promised by the
+// crate `text`; here is when they are written.
 ghost use mathlib.Core.Path.{_≡_};
-use crate::smaller;
+ghost use Prim.Native.Nat.{_+_, _≤_, _<_};
+ghost use lib.ListN.{length};
+use crate::ANSWERED;
+use crate::FAILED;
 use libc::STDOUT_FILENO;
 
-// Writes the text in the block.
-pub(crate) fn send(block: &[u8], at: usize)
-    requires { ⌜ at ≤ length (now block) ⌝ }
-{
-    io::write_all(STDOUT_FILENO, &block[..at]);
+// Where the text in the block ends, or that standard output failed on the way.
+pub struct Ended {
+    pub failed: bool,
+    pub at: usize,
 }
 
-// Where 32 bytes more have room: a number's digits and what stands before them are fewer.
-fn room(block: &[u8], at: usize) -> usize
+// The text ends at `at`, and all went well.
+fn so_far(at: usize) -> Ended
+    ensures { λ r. ⌜ r .at ≡ at ⌝ }
+{
+    Ended { failed: false, at }
+}
+
+// Writes some text; whether standard output took it. Where not, that has been said.
+fn write(text: &[u8]) -> bool {
+    if io::write_all(STDOUT_FILENO, text) {
+        return true;
+    }
+    os::fail(b"standard output");
+    false
+}
+
+// Writes the text in the block, the last of an answer; how the request ended.
+pub(crate) fn send(block: &[u8], text: Ended) -> u8
+    requires { ⌜ text .at ≤ length (now block) ⌝ }
+{
+    if text.failed {
+        return FAILED;
+    }
+    let at = text.at;
+    if write(&block[..at]) {
+        return ANSWERED;
+    }
+    FAILED
+}
+
+// Where 32 bytes more have room: a number, its sign and what stands after it are fewer.
+fn room(block: &[u8], at: usize) -> Ended
     requires { ⌜ (32 ≤ length (now block)) × (at ≤ length (now block)) ⌝ }
-    ensures { λ r. ⌜ r + 32 ≤ length (now (block .entry)) ⌝ }
+    ensures { λ r. ⌜ r .at + 32 ≤ length (now (block .entry)) ⌝ }
 {
     if at <= block.len() - 32 {
-        return at;
+        return so_far(at);
     }
-    send(block, at);
-    0
+    Ended {
+        failed: !write(&block[..at]),
+        at: 0,
+    }
 }
 
 // A store of its own, so that callers need only that the block keeps its length.
@@ -35,145 +65,136 @@ fn store(block: &mut [u8], at: usize, b: u8)
     block[at] = b;
 }
 
-// The first n of some digits, put into the block.
-fn copy(text: &[u8; 20], n: usize, block: &mut [u8], at: usize)
-    requires { ⌜ (n ≤ 20) × (at + n ≤ length (now block)) ⌝ }
-{
-    let mut i = 0;
-    while i < n {
-        block[at + i] = text[i];
-        i += 1;
-    }
-}
-
-// A number's digits from `at` on, of which there are at most 20; where they end.
-fn digits(block: &mut [u8], at: usize, n: u64) -> usize
-    requires { ⌜ at + 20 ≤ length (now block) ⌝ }
-    ensures { λ r. ⌜ r ≤ at + 20 ⌝ }
-{
-    if n < 10 {
-        store(block, at, 48 + n as u8);
-        return at + 1;
-    }
-    let mut text = [0u8; 20];
-    let k = smaller(io::decimal(n, &mut text), 20);
-    copy(&text, k, block, at);
-    at + k
-}
-
-// The byte `before`, and a number after it.
-fn put(block: &mut [u8], at: usize, before: u8, n: u64) -> usize
+// A number, and the byte `after` behind it.
+fn put(block: &mut [u8], at: usize, n: u64, after: u8) -> Ended
     requires { ⌜ (32 ≤ length (now block)) × (at ≤ length (now block)) ⌝ }
-    ensures { λ r. ⌜ r ≤ length (now (block .entry)) ⌝ }
+    ensures { λ r. ⌜ r .at ≤ length (now (block .entry)) ⌝ }
 {
     let start = room(block, at);
-    store(block, start, before);
-    digits(block, start + 1, n)
+    if start.failed {
+        return start;
+    }
+    so_far(text::number(block, start.at, n, after))
 }
 
-// The end of a line.
-fn end(block: &mut [u8], at: usize) -> usize
-    requires { ⌜ (32 ≤ length (now block)) × (at ≤ length (now block)) ⌝ }
-    ensures { λ r. ⌜ r ≤ length (now (block .entry)) ⌝ }
+// What stands after element i of n: a space, or the end of the line.
+fn after(i: usize, n: usize) -> u8
+    requires { ⌜ i < n ⌝ }
 {
-    let start = room(block, at);
-    store(block, start, b'\n');
-    start + 1
+    if i + 1 < n { b' ' } else { b'\n' }
 }
 
 // A letter and numbers after it, as a line at the block's start.
-pub(crate) fn line(block: &mut [u8], letter: u8, numbers: &[u64]) -> usize
+pub(crate) fn line(block: &mut [u8], letter: u8, numbers: &[u64]) -> Ended
     requires { ⌜ 32 ≤ length (now block) ⌝ }
-    ensures { λ r. ⌜ r ≤ length (now (block .entry)) ⌝ }
+    ensures { λ r. ⌜ r .at ≤ length (now (block .entry)) ⌝ }
 {
     store(block, 0, letter);
-    let mut at = 1;
+    store(block, 1, b' ');
+    let mut at = 2;
     let mut i = 0;
     while i < numbers.len() {
-        at = put(block, at, b' ', numbers[i]);
+        let text = put(block, at, numbers[i], after(i, numbers.len()));
+        if text.failed {
+            return text;
+        }
+        at = text.at;
         i += 1;
     }
-    end(block, at)
-}
-
-// How far below 0 a negative number is.
-fn magnitude(v: i64) -> u64
-    ensures { λ r. ⌜ (ltZ v (pos 0) ≡ true → r ≡ natAbs v) ⌝ }
-{
-    std::num::wrapping_add_u64(numbers::natural(!v), 1)
+    so_far(at)
 }
 
 // A letter, a number and a signed number, as a line at the block's start.
-pub(crate) fn signed_line(block: &mut [u8], letter: u8, number: u64, v: i64) -> usize
+pub(crate) fn signed_line(block: &mut [u8], letter: u8, number: u64, v: i64) -> Ended
     requires { ⌜ 32 ≤ length (now block) ⌝ }
-    ensures { λ r. ⌜ r ≤ length (now (block .entry)) ⌝ }
+    ensures { λ r. ⌜ r .at ≤ length (now (block .entry)) ⌝ }
 {
     store(block, 0, letter);
-    let at = put(block, 1, b' ', number);
-    if v < 0 {
-        let start = room(block, at);
-        store(block, start, b' ');
-        let last = put(block, start + 1, b'-', magnitude(v));
-        return end(block, last);
+    store(block, 1, b' ');
+    let first = put(block, 2, number, b' ');
+    if first.failed {
+        return first;
     }
-    let last = put(block, at, b' ', numbers::natural(v));
-    end(block, last)
+    let start = room(block, first.at);
+    if start.failed {
+        return start;
+    }
+    so_far(text::signed(block, start.at, v, b'\n'))
 }
 
-// The first element of a line has nothing before it.
-fn first(block: &mut [u8], at: usize, n: u64) -> usize
+// The end of a line of no elements.
+fn end(block: &mut [u8], at: usize) -> Ended
     requires { ⌜ (32 ≤ length (now block)) × (at ≤ length (now block)) ⌝ }
-    ensures { λ r. ⌜ r ≤ length (now (block .entry)) ⌝ }
+    ensures { λ r. ⌜ r .at ≤ length (now (block .entry)) ⌝ }
 {
     let start = room(block, at);
-    digits(block, start, n)
+    if start.failed {
+        return start;
+    }
+    store(block, start.at, b'\n');
+    so_far(start.at + 1)
 }
 
 fn wide_value(x: u16) -> u64 {
     x as u64
 }
 
-// The elements of a buffer of values, as a line.
-pub(crate) fn values(block: &mut [u8], at: usize, s: &[u16]) -> usize
-    requires { ⌜ (32 ≤ length (now block)) × (at ≤ length (now block)) ⌝ }
-    ensures { λ r. ⌜ r ≤ length (now (block .entry)) ⌝ }
+// The elements of a buffer of values, as a line behind the text that the block has.
+pub(crate) fn values(block: &mut [u8], text: Ended, s: &[u16]) -> Ended
+    requires { ⌜ (32 ≤ length (now block)) × (text .at ≤ length (now block)) ⌝ }
+    ensures { λ r. ⌜ r .at ≤ length (now (block .entry)) ⌝ }
 {
-    if s.len() == 0 {
-        return end(block, at);
+    if text.failed {
+        return text;
     }
-    let mut to = first(block, at, wide_value(s[0]));
-    let mut i = 1;
+    if s.len() == 0 {
+        return end(block, text.at);
+    }
+    let mut at = text.at;
+    let mut i = 0;
     while i < s.len() {
-        to = put(block, to, b' ', wide_value(s[i]));
+        let more = put(block, at, wide_value(s[i]), after(i, s.len()));
+        if more.failed {
+            return more;
+        }
+        at = more.at;
         i += 1;
     }
-    end(block, to)
+    so_far(at)
 }
 
 fn wide_count(x: u32) -> u64 {
     x as u64
 }
 
-// The elements of a buffer of counts, as a line.
-pub(crate) fn counts(block: &mut [u8], at: usize, s: &[u32]) -> usize
-    requires { ⌜ (32 ≤ length (now block)) × (at ≤ length (now block)) ⌝ }
-    ensures { λ r. ⌜ r ≤ length (now (block .entry)) ⌝ }
+// The elements of a buffer of counts, likewise.
+pub(crate) fn counts(block: &mut [u8], text: Ended, s: &[u32]) -> Ended
+    requires { ⌜ (32 ≤ length (now block)) × (text .at ≤ length (now block)) ⌝ }
+    ensures { λ r. ⌜ r .at ≤ length (now (block .entry)) ⌝ }
 {
-    if s.len() == 0 {
-        return end(block, at);
+    if text.failed {
+        return text;
     }
-    let mut to = first(block, at, wide_count(s[0]));
-    let mut i = 1;
+    if s.len() == 0 {
+        return end(block, text.at);
+    }
+    let mut at = text.at;
+    let mut i = 0;
     while i < s.len() {
-        to = put(block, to, b' ', wide_count(s[i]));
+        let more = put(block, at, wide_count(s[i]), after(i, s.len()));
+        if more.failed {
+            return more;
+        }
+        at = more.at;
         i += 1;
     }
-    end(block, to)
+    so_far(at)
 }
 
 // The run's last line: some words and a number.
-pub(crate) fn last(words: &[u8], n: u64) {
-    io::write_all(STDOUT_FILENO, words);
-    io::print_decimal(STDOUT_FILENO, n);
-    io::write_all(STDOUT_FILENO, b"\n");
+pub(crate) fn last(block: &mut [u8], words: &[u8], n: u64) {
+    if write(words) {
+        let end = text::number(block, 0, n, b'\n');
+        write(&block[..end]);
+    }
 }

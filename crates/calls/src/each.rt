@@ -1,33 +1,11 @@
-// Each public call: its arguments read, the call made, its answer written. A function that reads says
-// whether the request was whole; where it was not, nothing has been answered.
+// Each public call: its arguments read, the call made, its answer written; and how the request ended.
+// Where it was not whole, nothing has been answered.
 ghost use Prim.Native.Nat.{_≤_};
 ghost use lib.ListN.{length};
+use crate::ANSWERED;
 use crate::answer;
+use crate::asked;
 use crate::request;
-use request::Signed;
-use request::Unsigned;
-use units::Eighths;
-use units::Picometres;
-use units::Sixteenths;
-
-// The sides of a picture, if the input had them.
-enum Sides {
-    Of { width: usize, height: usize },
-    Cut,
-}
-
-fn both_sides() -> Sides {
-    let Unsigned::Of(width) = request::number() else {
-        return Sides::Cut;
-    };
-    let Unsigned::Of(height) = request::number() else {
-        return Sides::Cut;
-    };
-    Sides::Of {
-        width: width as usize,
-        height: height as usize,
-    }
-}
 
 // `f` and `m`: levels, width, height, output, work.
 pub(crate) fn picture(
@@ -36,18 +14,20 @@ pub(crate) fn picture(
     levels: &mut [u8],
     one: &mut [u16],
     two: &mut [u16],
-) -> bool
+) -> u8
     requires { ⌜ 32 ≤ length (now block) ⌝ }
 {
     let l = request::levels(levels);
-    if !l.whole {
-        return false;
+    if l.how != ANSWERED {
+        return l.how;
     }
-    let Sides::Of { width, height } = both_sides() else {
-        return false;
-    };
+    let mut sides = [0u8; 16];
+    let how = request::fill(&mut sides);
+    if how != ANSWERED {
+        return how;
+    }
     let i = l.count;
-    picture_lent(letter, block, &levels[..i], width, height, one, two)
+    picture_lent(letter, block, &levels[..i], &sides, one, two)
 }
 
 // Their two buffers.
@@ -55,131 +35,118 @@ fn picture_lent(
     letter: u8,
     block: &mut [u8],
     levels: &[u8],
-    width: usize,
-    height: usize,
+    sides: &[u8; 16],
     one: &mut [u16],
     two: &mut [u16],
-) -> bool
+) -> u8
     requires { ⌜ 32 ≤ length (now block) ⌝ }
 {
     let a = request::value_buffer(one);
-    if !a.whole {
-        return false;
+    if a.how != ANSWERED {
+        return a.how;
     }
     let b = request::value_buffer(two);
-    if !b.whole {
-        return false;
+    if b.how != ANSWERED {
+        return b.how;
     }
     let j = a.count;
     let k = b.count;
     if letter == b'm' {
-        measure(block, levels, width, height, &mut one[..j], &mut two[..k]);
+        measure(block, levels, sides, &mut one[..j], &mut two[..k])
     } else {
-        filter(block, levels, width, height, &mut one[..j], &mut two[..k]);
+        filter(block, levels, sides, &mut one[..j], &mut two[..k])
     }
-    true
 }
 
 // The calls themselves, and their answers.
 fn filter(
     block: &mut [u8],
     levels: &[u8],
-    width: usize,
-    height: usize,
+    sides: &[u8; 16],
     output: &mut [u16],
     work: &mut [u16],
-)
+) -> u8
     requires { ⌜ 32 ≤ length (now block) ⌝ }
 {
-    let number = filter::filter(levels, width, height, output, work);
-    let at = answer::line(block, b'f', &[number as u64]);
-    buffers(block, at, output, work);
+    let number = asked::filter(levels, sides, output, work);
+    let text = answer::line(block, b'f', &[number as u64]);
+    buffers(block, text, output, work)
 }
 
 fn measure(
     block: &mut [u8],
     levels: &[u8],
-    width: usize,
-    height: usize,
+    sides: &[u8; 16],
     output: &mut [u16],
     work: &mut [u16],
-)
+) -> u8
     requires { ⌜ 32 ≤ length (now block) ⌝ }
 {
-    let v = judge::measure(levels, width, height, output, work);
-    let at = answer::line(block, b'm', &[v.number as u64, v.ratio]);
-    buffers(block, at, output, work);
+    let v = asked::measure(levels, sides, output, work);
+    let text = answer::line(block, b'm', &[v.number as u64, v.ratio]);
+    buffers(block, text, output, work)
 }
 
 // The rest of an answer: both buffers as the call left them.
-fn buffers(block: &mut [u8], at: usize, output: &[u16], work: &[u16])
-    requires { ⌜ (32 ≤ length (now block)) × (at ≤ length (now block)) ⌝ }
+fn buffers(block: &mut [u8], text: answer::Ended, output: &[u16], work: &[u16]) -> u8
+    requires { ⌜ (32 ≤ length (now block)) × (text .at ≤ length (now block)) ⌝ }
 {
-    let y = answer::values(block, at, output);
-    let z = answer::values(block, y, work);
-    answer::send(block, z);
+    let first = answer::values(block, text, output);
+    let both = answer::values(block, first, work);
+    answer::send(block, both)
 }
 
 // `j`: count, bright, dark, spread.
-pub(crate) fn judge(block: &mut [u8]) -> bool
+pub(crate) fn judge(block: &mut [u8]) -> u8
     requires { ⌜ 32 ≤ length (now block) ⌝ }
 {
-    let Unsigned::Of(count) = request::number() else {
-        return false;
-    };
-    let Unsigned::Of(bright) = request::number() else {
-        return false;
-    };
-    let Unsigned::Of(dark) = request::number() else {
-        return false;
-    };
-    let Unsigned::Of(spread) = request::number() else {
-        return false;
-    };
-    let v = judge::judge(count, Eighths::of(bright), Eighths::of(dark), spread);
-    let at = answer::line(block, b'j', &[v.number as u64, v.ratio]);
-    answer::send(block, at);
-    true
+    let mut numbers = [0u8; 32];
+    let how = request::fill(&mut numbers);
+    if how != ANSWERED {
+        return how;
+    }
+    let v = asked::judge(&numbers);
+    let text = answer::line(block, b'j', &[v.number as u64, v.ratio]);
+    answer::send(block, text)
 }
 
 // `c`: values, histogram.
-pub(crate) fn count(block: &mut [u8], values: &mut [u16], counts: &mut [u32]) -> bool
+pub(crate) fn count(block: &mut [u8], values: &mut [u16], counts: &mut [u32]) -> u8
     requires { ⌜ 32 ≤ length (now block) ⌝ }
 {
     let v = request::values(values);
-    if !v.whole {
-        return false;
+    if v.how != ANSWERED {
+        return v.how;
     }
     let h = request::count_buffer(counts);
-    if !h.whole {
-        return false;
+    if h.how != ANSWERED {
+        return h.how;
     }
     let i = v.count;
     let j = h.count;
-    count_lent(block, &values[..i], &mut counts[..j]);
-    true
+    count_lent(block, &values[..i], &mut counts[..j])
 }
 
-fn count_lent(block: &mut [u8], values: &[u16], histogram: &mut [u32])
+fn count_lent(block: &mut [u8], values: &[u16], histogram: &mut [u32]) -> u8
     requires { ⌜ 32 ≤ length (now block) ⌝ }
 {
     let number = threshold::count(values, histogram);
-    let at = answer::line(block, b'c', &[number as u64]);
-    let end = answer::counts(block, at, histogram);
-    answer::send(block, end);
+    let text = answer::line(block, b'c', &[number as u64]);
+    let all = answer::counts(block, text, histogram);
+    answer::send(block, all)
 }
 
 // `t`: histogram.
-pub(crate) fn two_means(block: &mut [u8], counts: &mut [u32]) -> bool
+pub(crate) fn two_means(block: &mut [u8], counts: &mut [u32]) -> u8
     requires { ⌜ 32 ≤ length (now block) ⌝ }
 {
     let h = request::counts(counts);
-    if !h.whole {
-        return false;
+    if h.how != ANSWERED {
+        return h.how;
     }
     let i = h.count;
     let t = threshold::two_means(&counts[..i]);
-    let at = answer::line(
+    let text = answer::line(
         block,
         b't',
         &[
@@ -189,67 +156,45 @@ pub(crate) fn two_means(block: &mut [u8], counts: &mut [u32]) -> bool
             t.value.denominator,
         ],
     );
-    answer::send(block, at);
-    true
+    answer::send(block, text)
 }
 
 // `s`: levels, width, height, x, y.
-pub(crate) fn sample(block: &mut [u8], levels: &mut [u8]) -> bool
+pub(crate) fn sample(block: &mut [u8], levels: &mut [u8]) -> u8
     requires { ⌜ 32 ≤ length (now block) ⌝ }
 {
     let l = request::levels(levels);
-    if !l.whole {
-        return false;
+    if l.how != ANSWERED {
+        return l.how;
     }
-    let Sides::Of { width, height } = both_sides() else {
-        return false;
-    };
-    let Signed::Of(x) = request::signed_number() else {
-        return false;
-    };
-    let Signed::Of(y) = request::signed_number() else {
-        return false;
-    };
+    let mut numbers = [0u8; 32];
+    let how = request::fill(&mut numbers);
+    if how != ANSWERED {
+        return how;
+    }
     let i = l.count;
-    sample_lent(
-        block,
-        &levels[..i],
-        width,
-        height,
-        Sixteenths::of(x),
-        Sixteenths::of(y),
-    );
-    true
+    sample_lent(block, &levels[..i], &numbers)
 }
 
 // The call by itself, so that the prover finds the lengths of the spaces without help.
-fn sample_lent(
-    block: &mut [u8],
-    levels: &[u8],
-    width: usize,
-    height: usize,
-    x: Sixteenths,
-    y: Sixteenths,
-)
+fn sample_lent(block: &mut [u8], levels: &[u8], numbers: &[u8; 32]) -> u8
     requires { ⌜ 32 ≤ length (now block) ⌝ }
 {
-    let r = sample::sample(levels, width, height, x, y);
-    let at = answer::signed_line(block, b's', r.number as u64, r.value);
-    answer::send(block, at);
+    let r = asked::sample(levels, numbers);
+    let text = answer::signed_line(block, b's', r.number as u64, r.value);
+    answer::send(block, text)
 }
 
 // `l`: factor, pixel.
-pub(crate) fn length(block: &mut [u8]) -> bool
+pub(crate) fn length(block: &mut [u8]) -> u8
     requires { ⌜ 32 ≤ length (now block) ⌝ }
 {
-    let Signed::Of(factor) = request::signed_number() else {
-        return false;
-    };
-    let Unsigned::Of(pixel) = request::number() else {
-        return false;
-    };
-    let r = length::length(Sixteenths::of(factor), Picometres::of(pixel));
-    let at = answer::line(block, b'l', &[r.number as u64, r.length.amount()]);
-    answer::send(block, at);
-    true
+    let mut numbers = [0u8; 16];
+    let how = request::fill(&mut numbers);
+    if how != ANSWERED {
+        return how;
+    }
+    let r = asked::length(&numbers);
+    let text = answer::line(block, b'l', &[r.number as u64, r.length.amount()]);
+    answer::send(block, text)
 }

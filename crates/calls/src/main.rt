@@ -1,9 +1,12 @@
 // The program `calls`: every public call, driven from standard input, so that any language can call
 // the library and a second program can be held against it. A request is a letter and the call's
-// arguments; its answer is a line, and one line more for each buffer that was lent.
+// arguments; its answer is a line, and one line more for each buffer that was lent. request.rt reads,
+// asked.rt makes the calls, answer.rt writes, and each.rt puts the three together, call by call.
 mod answer;
+mod asked;
 mod each;
 mod request;
+mod wire;
 
 ghost use mathlib.Core.Path.{_≡_};
 ghost use Prim.Native.Nat.{_≤_, min};
@@ -11,15 +14,18 @@ ghost use lib.ListN.{length};
 ghost use Rattle.calls.specs.Space.{Places};
 use request::Next;
 
-// How a turn ended.
+// How a request ended: it was whole and has been answered; the input ended before it; it was cut
+// short, named no call or was too long; standard input or output failed, and that has been said.
 const ANSWERED: u8 = 0;
 
 const NO_MORE: u8 = 1;
 
 const BAD: u8 = 2;
 
-// A request by its letter: whether it was whole, and so has been answered. Each call reads its own
-// arguments, into the spaces that it needs, and writes its answer by way of the block.
+const FAILED: u8 = 3;
+
+// A request by its letter, and how it ended. Each call reads its own arguments, into the spaces that
+// it needs, and writes its answer by way of the block.
 fn call(
     letter: u8,
     block: &mut [u8],
@@ -27,7 +33,7 @@ fn call(
     one: &mut [u16],
     two: &mut [u16],
     counts: &mut [u32],
-) -> bool
+) -> u8
     requires { ⌜ 32 ≤ length (now block) ⌝ }
 {
     match letter {
@@ -38,11 +44,11 @@ fn call(
         b't' => each::two_means(block, counts),
         b's' => each::sample(block, levels),
         b'l' => each::length(block),
-        _ => false,
+        _ => BAD,
     }
 }
 
-// One request, and how it ended.
+// The next request, and how it ended.
 fn turn(
     block: &mut [u8],
     levels: &mut [u8],
@@ -52,23 +58,21 @@ fn turn(
 ) -> u8
     requires { ⌜ 32 ≤ length (now block) ⌝ }
 {
-    let Next::Letter(letter) = request::beginning() else {
-        return NO_MORE;
-    };
-    let good = call(letter, block, levels, one, two, counts);
-    if good {
-        return ANSWERED;
+    match request::beginning() {
+        Next::Letter(letter) => call(letter, block, levels, one, two, counts),
+        Next::Nothing(how) => how,
     }
-    BAD
 }
 
-// The run's last line.
-fn finish(how: u8, answered: u64) {
+// The run's last line. There is none where standard input or output failed.
+fn finish(block: &mut [u8], how: u8, answered: u64) {
     if how == NO_MORE {
-        answer::last(b"answered ", answered);
+        answer::last(block, b"answered ", answered);
         return;
     }
-    answer::last(b"bad request ", answered);
+    if how == BAD {
+        answer::last(block, b"bad request ", answered);
+    }
 }
 
 // Requests, one after the other. Nothing says that the input ends, so the count of them is what
@@ -80,7 +84,7 @@ fn serve(block: &mut [u8], levels: &mut [u8], one: &mut [u16], two: &mut [u16], 
     while answered < 18446744073709551615 {
         let how = turn(block, levels, one, two, counts);
         if how != ANSWERED {
-            finish(how, answered);
+            finish(block, how, answered);
             return;
         }
         answered += 1;

@@ -1,99 +1,74 @@
-// What comes from standard input: numbers, read-only slices, buffers. A short read is gone on from;
-// what the input is too short for is `Cut`, or not `whole`, and so is a slice or a buffer that is
-// longer than the space for it.
+// What comes from standard input: the bytes of numbers, read-only slices, buffers. What the input is
+// too short for is bad, and so is a slice or a buffer that is longer than the space for it.
 ghost use mathlib.Core.Path.{_≡_};
 ghost use Prim.Native.Nat.{_+_, _*_, _≤_};
 ghost use lib.ListN.{length};
-ghost use mir.Syntax.{w64};
-ghost use mir.Val.{toZ};
 ghost use Rattle.io.specs.Counts.{Counts};
+ghost use Rattle.numbers.specs.Bytes.{twoBytes, fourBytes};
+ghost use Rattle.numbers.specs.Lists.{listed, over};
 ghost use Rattle.numbers.specs.Refusals.{Unless};
-ghost use Rattle.calls.specs.Space.{All, None};
+ghost use Rattle.calls.specs.Space.{All, None, LentIs};
+use crate::ANSWERED;
+use crate::BAD;
+use crate::FAILED;
+use crate::NO_MORE;
 use crate::smaller;
-use libc::STDIN_FILENO;
+use crate::wire;
 use numbers::bytes;
 
-// What a request begins with: the letter of a call, or nothing at the end of the input.
+// What a request begins with: the letter of a call; or nothing, and how the run ends.
 pub enum Next {
     Letter(u8),
-    Nothing,
+    Nothing(u8),
 }
 
-// A number of 8 bytes, if the input had so many.
-pub enum Unsigned {
-    Of(u64),
-    Cut,
-}
-
-pub enum Signed {
-    Of(i64),
-    Cut,
-}
-
-// The first `count` places of a space hold what a request named, if it was whole.
+// The first `count` places of a space hold what a request named; none where it was not whole.
 pub struct Taken {
-    pub whole: bool,
+    pub how: u8,
     pub count: usize,
 }
 
 // The beginning of the next request.
 pub(crate) fn beginning() -> Next {
     let mut b = [0u8; 1];
-    let got = io::read_full(STDIN_FILENO, &mut b);
-    if got < 1 {
-        return Next::Nothing;
+    let got = streams::read(&mut b);
+    if got.failed {
+        return Next::Nothing(FAILED);
+    }
+    if got.count < 1 {
+        return Next::Nothing(NO_MORE);
     }
     Next::Letter(b[0])
 }
 
-// A number: 8 bytes.
-pub(crate) fn number() -> Unsigned {
-    let mut b = [0u8; 8];
-    let got = io::read_full(STDIN_FILENO, &mut b);
-    if got < 8 {
-        return Unsigned::Cut;
+// Fills a space from the input; how that went.
+pub(crate) fn fill(space: &mut [u8]) -> u8 {
+    let got = streams::read(space);
+    if got.failed {
+        return FAILED;
     }
-    let low = bytes::four(bytes::pair(b[0], b[1]), bytes::pair(b[2], b[3]));
-    let high = bytes::four(bytes::pair(b[4], b[5]), bytes::pair(b[6], b[7]));
-    Unsigned::Of(bytes::eight(low, high))
+    if got.count < space.len() {
+        return BAD;
+    }
+    ANSWERED
 }
 
-// The signed number whose bits, in two's complement, are those of n.
-fn complement(n: u64) -> i64
-    ensures { λ r. ⌜ r ≡ toZ w64 n ⌝ }
+// Nothing is taken, and why.
+fn nothing(how: u8) -> Taken
+    ensures { λ r. ⌜ None how r ⌝ }
 {
-    if n < 9223372036854775808 {
-        return n as i64;
-    }
-    !((18446744073709551615 - n) as i64)
-}
-
-// A signed number: 8 bytes, in two's complement.
-pub(crate) fn signed_number() -> Signed {
-    let Unsigned::Of(n) = number() else {
-        return Signed::Cut;
-    };
-    Signed::Of(complement(n))
-}
-
-fn cut() -> Taken
-    ensures { λ r. ⌜ None r ⌝ }
-{
-    Taken {
-        whole: false,
-        count: 0,
-    }
+    Taken { how, count: 0 }
 }
 
 // A length as it was read, against a space of `most`: taken up to that very number, and no more.
 fn within(n: u64, most: usize) -> Taken
-    ensures { λ r. ⌜ Unless (n ≤ most) (None r) (All n r) ⌝ }
+    ensures { λ r. ⌜ Unless (n ≤ most) (None 2 r) (All n r) ⌝ }
 {
     if (most as u64) < n {
-        return cut();
+        return nothing(BAD);
     }
     Taken {
-        whole: true,
+        how: ANSWERED,
         count: n as usize,
     }
 }
@@ -102,18 +77,19 @@ fn within(n: u64, most: usize) -> Taken
 fn size(most: usize) -> Taken
     ensures { λ r. ⌜ r .count ≤ most ⌝ }
 {
-    let Unsigned::Of(n) = number() else {
-        return cut();
-    };
-    within(n, most)
+    let mut b = [0u8; 8];
+    let how = fill(&mut b);
+    if how != ANSWERED {
+        return nothing(how);
+    }
+    within(bytes::number(b), most)
 }
 
-// Fills the first n places of a space from the input; whether that had so many bytes.
-fn exactly(space: &mut [u8], n: usize) -> bool
+// Fills the first n places of a space from the input; how that went.
+fn exactly(space: &mut [u8], n: usize) -> u8
     requires { ⌜ n ≤ length (now space) ⌝ }
 {
-    let got = io::read_full(STDIN_FILENO, &mut space[..n]);
-    got == n
+    fill(&mut space[..n])
 }
 
 // A read-only slice of levels: a byte each.
@@ -121,17 +97,21 @@ pub(crate) fn levels(space: &mut [u8]) -> Taken
     ensures { λ r. ⌜ Counts (r .count) (now (space .exit)) ⌝ }
 {
     let t = size(space.len());
-    let n = t.count;
-    let whole = exactly(space, n);
-    if whole {
-        return t;
+    if t.how != ANSWERED {
+        return nothing(t.how);
     }
-    cut()
+    let n = t.count;
+    let how = exactly(space, n);
+    if how != ANSWERED {
+        return nothing(how);
+    }
+    t
 }
 
 // Two bytes to each of k elements from `at` on.
 fn join_pairs(b: &[u8], space: &mut [u16], at: usize, k: usize)
     requires { ⌜ (at + k ≤ length (now space)) × (2 * k ≤ length (now b)) ⌝ }
+    ensures { λ r. ⌜ now (space .exit) ≡ over (now (space .entry)) at (listed k (λ i. twoBytes (now (b .entry)) (2 * i))) ⌝ }
 {
     let mut i = 0;
     while i < k {
@@ -141,21 +121,21 @@ fn join_pairs(b: &[u8], space: &mut [u16], at: usize, k: usize)
     }
 }
 
-// The first n elements of a space, by way of a block of bytes; whether they all came.
-fn pairs(b: &mut [u8], space: &mut [u16], n: usize) -> bool
+// The first n elements of a space, by way of a block of bytes; how that went.
+fn pairs(b: &mut [u8], space: &mut [u16], n: usize) -> u8
     requires { ⌜ (n ≤ length (now space)) × (2 ≤ length (now b)) ⌝ }
 {
     let mut at = 0;
     while at < n {
         let k = smaller(n - at, b.len() / 2);
-        let whole = exactly(b, 2 * k);
-        if !whole {
-            return false;
+        let how = exactly(b, 2 * k);
+        if how != ANSWERED {
+            return how;
         }
         join_pairs(b, space, at, k);
         at += k;
     }
-    true
+    ANSWERED
 }
 
 // A read-only slice of values: two bytes each.
@@ -163,18 +143,22 @@ pub(crate) fn values(space: &mut [u16]) -> Taken
     ensures { λ r. ⌜ Counts (r .count) (now (space .exit)) ⌝ }
 {
     let t = size(space.len());
+    if t.how != ANSWERED {
+        return nothing(t.how);
+    }
     let n = t.count;
     let mut b = io::large_buffer();
-    let whole = pairs(&mut b, space, n);
-    if whole {
-        return t;
+    let how = pairs(&mut b, space, n);
+    if how != ANSWERED {
+        return nothing(how);
     }
-    cut()
+    t
 }
 
 // Four bytes to each of n elements.
 fn join_fours(b: &[u8], space: &mut [u32], n: usize)
     requires { ⌜ (n ≤ length (now space)) × (4 * n ≤ length (now b)) ⌝ }
+    ensures { λ r. ⌜ now (space .exit) ≡ over (now (space .entry)) 0 (listed n (λ i. fourBytes (now (b .entry)) (4 * i))) ⌝ }
 {
     let mut i = 0;
     while i < n {
@@ -184,16 +168,16 @@ fn join_fours(b: &[u8], space: &mut [u32], n: usize)
     }
 }
 
-// The first n elements of a space, by way of a block that has room for them all; whether they came.
-fn fours(b: &mut [u8], space: &mut [u32], n: usize) -> bool
+// The first n elements of a space, by way of a block that has room for them all; how that went.
+fn fours(b: &mut [u8], space: &mut [u32], n: usize) -> u8
     requires { ⌜ n ≤ length (now space) ⌝ }
 {
     if b.len() / 4 < n {
-        return false;
+        return BAD;
     }
-    let whole = exactly(b, 4 * n);
+    let how = exactly(b, 4 * n);
     join_fours(b, space, n);
-    whole
+    how
 }
 
 // A read-only slice of counts: four bytes each. 4,096 of them have room in the block.
@@ -201,17 +185,22 @@ pub(crate) fn counts(space: &mut [u32]) -> Taken
     ensures { λ r. ⌜ Counts (r .count) (now (space .exit)) ⌝ }
 {
     let t = size(space.len());
+    if t.how != ANSWERED {
+        return nothing(t.how);
+    }
     let n = t.count;
     let mut b = io::large_buffer();
-    let whole = fours(&mut b, space, n);
-    if whole {
-        return t;
+    let how = fours(&mut b, space, n);
+    if how != ANSWERED {
+        return nothing(how);
     }
-    cut()
+    t
 }
 
-fn fill_values(space: &mut [u16], n: usize, v: u16)
+// The first n places of a space are set to a value.
+fn set_values(space: &mut [u16], n: usize, v: u16)
     requires { ⌜ n ≤ length (now space) ⌝ }
+    ensures { λ r. ⌜ now (space .exit) ≡ over (now (space .entry)) 0 (listed n (λ i. v)) ⌝ }
 {
     let mut i = 0;
     while i < n {
@@ -220,24 +209,31 @@ fn fill_values(space: &mut [u16], n: usize, v: u16)
     }
 }
 
-// A buffer of values: its length, and the value that fills it (its low 16 bits).
+// A buffer of values from the bytes of its length and of the value that fills it (its low 16 bits).
+fn lent_values(b: &[u8; 16], space: &mut [u16]) -> Taken
+    ensures { λ r. ⌜ LentIs 65536 (now (b .entry)) (now (space .entry)) r (now (space .exit)) ⌝ }
+{
+    let t = within(wire::number(b, 0), space.len());
+    let n = t.count;
+    set_values(space, n, (wire::number(b, 1) % 65536) as u16);
+    t
+}
+
+// The same, read.
 pub(crate) fn value_buffer(space: &mut [u16]) -> Taken
     ensures { λ r. ⌜ Counts (r .count) (now (space .exit)) ⌝ }
 {
-    let t = size(space.len());
-    if !t.whole {
-        return cut();
+    let mut b = [0u8; 16];
+    let how = fill(&mut b);
+    if how != ANSWERED {
+        return nothing(how);
     }
-    let Unsigned::Of(v) = number() else {
-        return cut();
-    };
-    let n = t.count;
-    fill_values(space, n, (v % 65536) as u16);
-    t
+    lent_values(&b, space)
 }
 
-fn fill_counts(space: &mut [u32], n: usize, v: u32)
+fn set_counts(space: &mut [u32], n: usize, v: u32)
     requires { ⌜ n ≤ length (now space) ⌝ }
+    ensures { λ r. ⌜ now (space .exit) ≡ over (now (space .entry)) 0 (listed n (λ i. v)) ⌝ }
 {
     let mut i = 0;
     while i < n {
@@ -246,18 +242,23 @@ fn fill_counts(space: &mut [u32], n: usize, v: u32)
     }
 }
 
-// A buffer of counts: its length, and the count that fills it (its low 32 bits).
+// A buffer of counts, likewise (its low 32 bits).
+fn lent_counts(b: &[u8; 16], space: &mut [u32]) -> Taken
+    ensures { λ r. ⌜ LentIs 4294967296 (now (b .entry)) (now (space .entry)) r (now (space .exit)) ⌝ }
+{
+    let t = within(wire::number(b, 0), space.len());
+    let n = t.count;
+    set_counts(space, n, (wire::number(b, 1) % 4294967296) as u32);
+    t
+}
+
 pub(crate) fn count_buffer(space: &mut [u32]) -> Taken
     ensures { λ r. ⌜ Counts (r .count) (now (space .exit)) ⌝ }
 {
-    let t = size(space.len());
-    if !t.whole {
-        return cut();
+    let mut b = [0u8; 16];
+    let how = fill(&mut b);
+    if how != ANSWERED {
+        return nothing(how);
     }
-    let Unsigned::Of(v) = number() else {
-        return cut();
-    };
-    let n = t.count;
-    fill_counts(space, n, (v % 4294967296) as u32);
-    t
+    lent_counts(&b, space)
 }

@@ -1,6 +1,6 @@
 // The program `cases`: what a student can work by hand (document 01), those cases that the document
-// does not mark, run. (Those that it marks are proved, in proofs/Cases.antt.) A line is what the judge
-// is given, N, M, m and D, and what comes back, the number and q.
+// does not mark, run. (Those that it marks stand in specs/Cases.antt, and proofs/Worked.antt proves
+// them.) A line is what the judge is given, N, M, m and D, and what comes back, the number and q.
 use libc::STDOUT_FILENO;
 use units::Eighths;
 

@@ -17,7 +17,7 @@ use Rattle.threshold.specs.declared.Threshold.{Threshold}
 use Rattle.threshold.specs.Histogram.{Countable, tally, Counted, CountIs}
 use Rattle.threshold.specs.TwoMeans.{TwoMeansIs}
 use Rattle.threshold.proofs.Outcomes.{one-histogram, one-threshold}
-use Rattle.gongspindle.specs.declared.Line.{Line}
+use Rattle.gongspindle.specs.declared.levels.Line.{Line}
 use Rattle.gongspindle.specs.Line.{SquarePicture, LineIs}
 
 -- a side of 16 or 64 is in range and a multiple of 4, and its square has room in 4,096 places

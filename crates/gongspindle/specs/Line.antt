@@ -9,7 +9,7 @@ use Rattle.filter.specs.Filter.{eighths}
 use Rattle.judge.specs.Measure.{Judged}
 use Rattle.threshold.specs.Histogram.{tally, Counted}
 use Rattle.threshold.specs.TwoMeans.{TwoMeansIs}
-use Rattle.gongspindle.specs.declared.Line.{Line}
+use Rattle.gongspindle.specs.declared.levels.Line.{Line}
 
 -- "a 16×16 picture", "a 64×64 picture"
 abbrev pub SquarePicture : ℕ → List ℕ → Type 0

@@ -1,5 +1,5 @@
 -- The judge as one table, which antt computes, with the ends of its ranges; and two small filtered pictures, cut into tiles. What
--- document 01 marks stands in cases/proofs/Cases.antt, which tests it by `holds`. Assumes nothing.
+-- document 01 marks stands in cases/specs/Cases.antt, and is tested by `holds`. Assumes nothing.
 use mathlib.Core.Path.{_≡_, refl}
 use mathlib.Core.List.{List, [], _∷_}
 use mathlib.Core.Logic.{inl, Dec·and, Dec·not}

@@ -1,5 +1,5 @@
--- The least length and the greatest as one table, which antt computes. What document 01 marks stands in cases/proofs/Cases.antt,
--- which tests it by `holds`. Assumes nothing.
+-- The least length and the greatest as one table, which antt computes. What document 01 marks stands in cases/specs/Cases.antt,
+-- and is tested by `holds`. Assumes nothing.
 use mathlib.Core.Path.{_≡_}
 use mathlib.Core.List.{List, [], _∷_}
 use mathlib.Core.Logic.{Dec·and}

@@ -3,6 +3,8 @@ pub mod Refusals
 pub mod Greatest
 pub mod Differences
 pub mod Lists
+pub mod Writing
+pub mod LittleEndian
 pub mod Sums
 pub mod SignedSums
 pub mod Ranges

@@ -1,3 +1,4 @@
+pub mod Bytes
 pub mod Refusals
 pub mod Greatest
 pub mod Signed

@@ -2,6 +2,9 @@
 // bits, two of these 32, and two of those 64.
 ghost use mathlib.Core.Path.{_≡_};
 ghost use Prim.Native.Nat.{_+_, _*_};
+ghost use mir.Syntax.{w64};
+ghost use mir.Val.{toZ};
+ghost use Rattle.numbers.specs.Bytes.{eightBytes};
 
 // 16 bits from two bytes.
 pub fn pair(low: u8, high: u8) -> u16
@@ -22,4 +25,30 @@ pub fn eight(low: u32, high: u32) -> u64
     ensures { λ r. ⌜ r ≡ low + high * 4294967296 ⌝ }
 {
     low as u64 + high as u64 * 4294967296
+}
+
+// The number that eight bytes stand for.
+pub fn number(bytes: [u8; 8]) -> u64
+    ensures { λ r. ⌜ r ≡ eightBytes bytes 0 ⌝ }
+{
+    let low = four(pair(bytes[0], bytes[1]), pair(bytes[2], bytes[3]));
+    let high = four(pair(bytes[4], bytes[5]), pair(bytes[6], bytes[7]));
+    eight(low, high)
+}
+
+// The signed number that eight bytes stand for, in two's complement.
+pub fn signed(bytes: [u8; 8]) -> i64
+    ensures { λ r. ⌜ r ≡ toZ w64 (eightBytes bytes 0) ⌝ }
+{
+    complement(number(bytes))
+}
+
+// The signed number whose bits, in two's complement, are those of n.
+fn complement(n: u64) -> i64
+    ensures { λ r. ⌜ r ≡ toZ w64 n ⌝ }
+{
+    if n < 9223372036854775808 {
+        return n as i64;
+    }
+    !((18446744073709551615 - n) as i64)
 }

@@ -1,12 +1,11 @@
--- Laws of the kinds: which there are, how long their bodies are, and what a pixel's size is made of. Assumes nothing.
+-- Laws of the kinds: which there are, and how long their bodies are. Assumes nothing.
 use mathlib.Core.Path.{_≡_, ap, _∙_}
-use mathlib.Core.List.{List}
 use mathlib.Core.Logic.{inl, inr}
-use Prim.Native.Nat.{ℕ, _+_, _*_, _≤_}
+use Prim.Native.Nat.{ℕ, _+_, _≤_}
 use native.Mathlib.Omega.{arith}
 use lib.Dec.{lit≤}
 use Rattle.numbers.specs.Refusals.{Unless}
-use Rattle.records.specs.Records.{byte, littleEndian, Known, bodyLength}
+use Rattle.records.specs.Records.{Known, bodyLength}
 
 module _ {kind : ℕ} where
   -- a kind that is neither 1 nor 2 nor 3 is not known
@@ -39,8 +38,3 @@ module _ {kind : ℕ} where
 -- where a body ends, of a kind that is told
 pub ends-by : {kind k end : ℕ} (start : ℕ) → kind ≡ k → end ≡ start + bodyLength kind → end ≡ start + bodyLength k
 ends-by start e ends = ends ∙ ap (λ (k : ℕ). start + bodyLength k) e
-
--- two pairs of bytes make the number that the four stand for
-pub of-pairs : (input : List ℕ) (i low high all : ℕ) → low ≡ byte input i + byte input (i + 1) * 256
-    → high ≡ byte input (i + 2) + byte input (i + 3) * 256 → all ≡ low + high * 65536 → all ≡ littleEndian input i
-of-pairs input i low high all l h a = omega arith

@@ -14,7 +14,7 @@ use Rattle.records.specs.declared.Record.the-variants.{Picture, Pixel, E
 use Rattle.records.specs.Records.{RecordIs}
 use Rattle.records.proofs.Bodies.{unknown}
 use Rattle.records.proofs.Outcomes.{one-record}
-use Rattle.records.proofs.Reading.{known-or-not, found}
+use Rattle.records.proofs.Reading.{known-or-not, of-known, found}
 
 -- a row of the table: an input, an offset, and the record there
 pub record Row : Type 0 where
@@ -61,7 +61,7 @@ table =
     ∷ []
 
 pub worked : EveryRow Holds table
-unfolding decLe decLt ℕ-discrete known-or-not found
+unfolding decLe decLt ℕ-discrete known-or-not of-known found
 worked = hold table (refl, (refl, (refl, (refl, (refl, (refl, (refl, (refl, (refl, (refl, (refl, (refl, (refl, tt)))))))))))))
 
 -- ---- "program input above 32,768 bytes": so many zeros are looked at, and one byte more is refused, whatever

@@ -5,20 +5,40 @@ use mathlib.Core.List.{List}
 use mathlib.Core.Logic.{inl, inr}
 use Prim.Native.Nat.{ℕ, zero, suc, _+_, _<_, _≤_}
 use native.Mathlib.Decide.{decLe, decLt, ℕ-discrete}
+use native.Mathlib.Nat.{add-zero, zero-add}
 use native.Mathlib.Omega.{arith}
 use lib.ListN.{length}
 use Rattle.numbers.proofs.Refusals.{stops, goes-on}
+use Rattle.units.specs.Units.{picometres}
 use Rattle.records.specs.declared.Record.{Record}
 use Rattle.records.specs.declared.Record.the-variants.{Picture, Pixel, End, Bad}
-use Rattle.records.specs.Records.{byte, Known, bodyLength, byKind, RecordIs, Follows, Last}
+use Rattle.numbers.specs.Bytes.{byte, fourBytes}
+use Rattle.records.specs.Records.{Known, bodyLength, answerOf, byKind, RecordIs, Follows, Last, Reading}
 use Rattle.records.proofs.Bodies.{unknown}
 use Rattle.records.proofs.Outcomes.{one-record, moves-on}
 
--- from an offset on: k good records, each beginning where the one before ends, and then the last
-abbrev pub Reading : List ℕ → ℕ → ℕ → Record → Type 0
-Reading input zero at last = RecordIs input at last × Last last
-Reading input (suc k) at last =
-    (r : Record) × (RecordIs input at r × ((next : ℕ) × (Follows r next × Reading input k next last)))
+-- ---- an input that is read from its first byte on: k good records lie before an offset, in that whatever is read from there on makes a
+-- reading of the whole input with k good records more
+pub record Before (input : List ℕ) (k at : ℕ) : Type 0 where
+  pub then : (j : ℕ) (last : Record) → Reading input j at last → Reading input (k + j) 0 last
+
+pub none-yet : (input : List ℕ) → Before input 0 0
+none-yet input = record { then = λ j last rest. subst (λ (n : ℕ). Reading input n 0 last) (sym (zero-add j)) rest }
+
+pub one-more : {input : List ℕ} {k at : ℕ} (r : Record) (next : ℕ) → Before input k at → RecordIs input at r → Follows r next
+    → Before input (k + 1) next
+one-more {input} {k} r next before is follows = record { then = go-on }
+  where
+    longer : (j : ℕ) → k + suc j ≡ k + 1 + j
+    longer j = omega arith
+
+    go-on : (j : ℕ) (last : Record) → Reading input j next last → Reading input (k + 1 + j) 0 last
+    go-on j last rest =
+        subst (λ (n : ℕ). Reading input n 0 last) (longer j) (before .then (suc j) last (r, (is, (next, (follows, rest)))))
+
+-- so where the last one stands there the input is read
+pub all-read : {input : List ℕ} {k at : ℕ} (last : Record) → Before input k at → RecordIs input at last → Last last → Reading input k 0 last
+all-read {input} {k} last before is over = subst (λ (n : ℕ). Reading input n 0 last) (add-zero k) (before .then 0 last (is, over))
 
 -- ---- where the next record begins is determined, and the last has no next
 one-follows : (r r' : Record) (n n' : ℕ) → r ≡ r' → Follows r n → Follows r' n' → n ≡ n'
@@ -30,7 +50,7 @@ one-follows r r' n n' e a b = same r' (subst (λ (q : Record). Follows q n) e a)
     same End x y = absurd x
     same (Bad number offset) x y = absurd x
 
-not-both : (r r' : Record) (n : ℕ) → r ≡ r' → Follows r n → ¬ Last r'
+pub not-both : (r r' : Record) (n : ℕ) → r ≡ r' → Follows r n → ¬ Last r'
 not-both r r' n e a b = same r' (subst (λ (q : Record). Follows q n) e a) b
   where
     same : (q : Record) → Follows q n → ¬ Last q
@@ -54,6 +74,11 @@ known-or-not kind = elim (ℕ-discrete kind 1) [
 
 module _ (input : List ℕ) where
   -- ---- there is a record at every offset
+  unfoldable pub of-known : (at kind : ℕ) → Known kind → (r : Record) × (answerOf r ≡ byKind input kind (at + 1) (at + 1 + bodyLength kind))
+  of-known at kind (inl e) = (Picture 16 (at + 1) (at + 1 + 256), rw e refl)
+  of-known at kind (inr (inl e)) = (Picture 64 (at + 1) (at + 1 + 4096), rw e refl)
+  of-known at kind (inr (inr e)) = (Pixel (picometres (fourBytes input (at + 1))) (at + 1 + 4), rw e refl)
+
   unfoldable pub found : (at : ℕ) → (r : Record) × RecordIs input at r
   found at = elim (decLe (length input) 32768) [
     | no f ↦ (Bad 18 32768, stops f refl)
@@ -63,7 +88,7 @@ module _ (input : List ℕ) where
         | no f ↦ (Bad 16 at, goes-on few (goes-on in-it (stops f refl)))
         | yes k ↦ elim (decLe (at + 1 + bodyLength (byte input at)) (length input)) [
           | no f ↦ (Bad 17 at, goes-on few (goes-on in-it (goes-on k (stops f refl))))
-          | yes there ↦ (byKind input (byte input at) (at + 1), goes-on few (goes-on in-it (goes-on k (goes-on there refl))))
+          | yes there ↦ let w = of-known at (byte input at) k in (w .0, goes-on few (goes-on in-it (goes-on k (goes-on there (w .1)))))
         ]
       ]
     ]

@@ -3,7 +3,8 @@ ghost use mathlib.Core.Path.{_≡_};
 ghost use Prim.Native.Nat.{_+_, _≤_};
 ghost use lib.ListN.{length};
 ghost use Rattle.numbers.specs.Refusals.{Unless};
-ghost use Rattle.records.specs.Records.{littleEndian, Known, bodyLength, byKind, RecordIs};
+ghost use Rattle.numbers.specs.Bytes.{fourBytes};
+ghost use Rattle.records.specs.Records.{Known, bodyLength, answerOf, byKind, RecordIs};
 ghost use Rattle.units.specs.Units.{picometres};
 use numbers::bytes;
 use numbers::table;
@@ -80,7 +81,7 @@ fn body_length(kind: u8) -> usize
 // A record of a known kind, whose body is all there.
 fn by_kind(input: &[u8], kind: u8, start: usize, end: usize) -> Record
     requires { ⌜ Known kind × (end ≡ start + bodyLength kind) × (end ≤ length (now input)) ⌝ }
-    ensures { λ r. ⌜ r ≡ byKind (now (input .entry)) kind start ⌝ }
+    ensures { λ r. ⌜ answerOf r ≡ byKind (now (input .entry)) kind start end ⌝ }
 {
     match kind {
         1 => Record::Picture {
@@ -103,7 +104,7 @@ fn by_kind(input: &[u8], kind: u8, start: usize, end: usize) -> Record
 // The size of a pixel: four bytes, the low one first.
 fn pixel_size(input: &[u8], start: usize) -> Picometres
     requires { ⌜ start + 4 ≤ length (now input) ⌝ }
-    ensures { λ r. ⌜ r ≡ picometres (littleEndian (now (input .entry)) start) ⌝ }
+    ensures { λ r. ⌜ r ≡ picometres (fourBytes (now (input .entry)) start) ⌝ }
 {
     let low = bytes::pair(input[start], input[start + 1]);
     let high = bytes::pair(input[start + 2], input[start + 3]);

@@ -1,5 +1,5 @@
 -- Samples as one table, which antt computes: places where columns and rows are not alike; both ends of the range; the borders; and
--- the numbers 1 and 2. What document 01 marks stands in cases/proofs/Cases.antt, which tests it by `holds`. Assumes nothing.
+-- the numbers 1 and 2. What document 01 marks stands in cases/specs/Cases.antt, and is tested by `holds`. Assumes nothing.
 use mathlib.Core.Path.{_≡_, ap}
 use mathlib.Core.Bool.{Bool, true, false}
 use mathlib.Core.List.{List, [], _∷_}

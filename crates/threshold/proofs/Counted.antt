@@ -3,7 +3,6 @@ use mathlib.Core.Path.{_≡_, refl, sym, _∙_}
 use mathlib.Core.Bool.{cond}
 use mathlib.Core.List.{List, [], _∷_}
 use Prim.Native.Nat.{ℕ, zero, suc, _*_, _/_, _<_, _≤_, zero-le}
-use native.Mathlib.Nat.{zero-add}
 use native.Mathlib.Decide.{ℕ-discrete}
 use native.Mathlib.Omega.{arith}
 use lib.Dec.{eqb, lit≤}
@@ -15,21 +14,21 @@ use Rattle.numbers.proofs.Refusals.{goes-on}
 use Rattle.numbers.proofs.Lists.{most-equal}
 use Rattle.numbers.proofs.Sums.{sum-equal}
 use Rattle.threshold.specs.Histogram.{countOf, Countable, Tally, tally, CountIs}
-use Rattle.threshold.specs.Asked.{addedFrom, Added}
+use Rattle.threshold.specs.Asked.{addedUpTo, Added}
 use Rattle.threshold.proofs.Histograms.{counts-none, counts-more, count-done}
 use Rattle.threshold.proofs.Outcomes.{one-tally}
 
 -- the counts of values that can be counted are what counting leaves, and nothing else is
-no-other : (values counts h : List ℕ) (r : Tally) → Countable values → Added values 0 (length values) counts → length h ≡ 256 → CountIs values h r
-    → r ≡ tally 0 counts
+no-other : (values counts h : List ℕ) (r : Tally) → Countable values → Added values (length values) counts → length h ≡ 256
+    → CountIs values h r → r ≡ tally 0 counts
 no-other values counts h r ok all places is =
     one-tally values h r (tally 0 counts) is (goes-on places (goes-on ok (count-done values counts counts ok all refl)))
 
 -- ---- equal values
 -- n values x add n at the level of x, and nothing elsewhere
-equal-added : (n x v : ℕ) → addedFrom (replicate n x) 0 n v ≡ n * cond (eqb (x / 8) v) 1 0
-unfolding addedFrom
-equal-added n x v = sum-equal (cond (eqb (x / 8) v) 1 0) n _ (λ i h. rw (zero-add i, getD-replicate n i x 0 h))
+equal-added : (n x v : ℕ) → addedUpTo (replicate n x) n v ≡ n * cond (eqb (x / 8) v) 1 0
+unfolding addedUpTo
+equal-added n x v = sum-equal (cond (eqb (x / 8) v) 1 0) n _ (λ i h. rw (getD-replicate n i x 0 h))
 
 -- that is what a list of m zeros has in which place l is set to n
 one-place : (m n l v : ℕ) → l < m → v < m → countOf (set (replicate m 0) l n) v ≡ n * cond (eqb l v) 1 0
@@ -79,7 +78,7 @@ pub four-values : (h : List ℕ) (r : Tally) → length h ≡ 256 → CountIs fo
     → r ≡ tally 0 (set (set (set (replicate 256 0) 0 2) 1 1) 255 1)
 four-values h r =
     no-other four _ h r four-countable
-    (counts-more four 0 four-countable 3 3 _ refl
-    (counts-more four 0 four-countable 2 2 _ refl
-    (counts-more four 0 four-countable 1 1 _ refl
-    (counts-more four 0 four-countable 0 0 _ refl (counts-none four 0)))))
+    (counts-more four four-countable 3 _
+    (counts-more four four-countable 2 _
+    (counts-more four four-countable 1 _
+    (counts-more four four-countable 0 _ (counts-none four)))))

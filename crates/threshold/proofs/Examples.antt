@@ -1,5 +1,5 @@
 -- Thresholds as one table, which antt computes, with every threshold on the way. What document 01 marks stands in
--- cases/proofs/Cases.antt, which tests it by `holds` and `at-rest`. Assumes nothing.
+-- cases/specs/Cases.antt, and is tested by `holds` and `at-rest`. Assumes nothing.
 use mathlib.Core.Path.{_≡_, sym, subst}
 use mathlib.Core.List.{List, [], _∷_}
 use mathlib.Core.Logic.{Dec·and, Dec·not}
@@ -8,7 +8,7 @@ use Prim.Native.Nat.{ℕ, suc, _+_, _≤_, zero-le}
 use native.Mathlib.Nat.{pos-of-ne-zero, zero-add}
 use native.Mathlib.Decide.{decLe, ℕ-discrete}
 use native.Mathlib.Omega.{arith}
-use lib.ListN.{length, replicate, set}
+use lib.ListN.{length}
 use Rattle.numbers.specs.declared.Fraction.{Fraction}
 use Rattle.numbers.specs.Greatest.{Least}
 use Rattle.numbers.specs.Sums.{sum}
@@ -20,15 +20,13 @@ use Rattle.numbers.proofs.Computed.{when, EveryRow, every-row}
 use Rattle.threshold.specs.declared.Threshold.{Threshold}
 use Rattle.threshold.specs.Histogram.{total}
 use Rattle.threshold.specs.TwoMeans.{level, start, sumOver, round, Rests, threshold, Settled, answered, TwoMeansIs}
+use Rattle.threshold.specs.Worked.{histogram, Walk}
 use Rattle.threshold.proofs.Sequence.{within-or-not, rests-or-not}
 use Rattle.threshold.proofs.Demand.{RestsAt, settled}
 use Rattle.threshold.proofs.Outcomes.{one-threshold}
 
--- ---- a walk: the thresholds after T, each a round from the one before, and U the answer at the last, which rests as none before it
-abbrev pub Walk : List ℕ → Fraction → List Fraction → Fraction → Type 0
-Walk h T [] U = Rests h T × (round h T ≡ U)
-Walk h T (S ∷ l) U = (¬ Rests h T) × ((round h T ≡ S) × Walk h S l U)
-
+-- ---- a walk
+-- whether these are its thresholds
 walks : (h : List ℕ) (T : Fraction) (l : List Fraction) (U : Fraction) → Dec (Walk h T l U)
 walks h T [] U = Dec·and (rests-or-not h T) (one-pair-or-not (round h T) U)
 walks h T (S ∷ l) U = Dec·and (Dec·not (rests-or-not h T)) (Dec·and (one-pair-or-not (round h T) S) (walks h S l U))
@@ -52,11 +50,6 @@ pub record Row : Type 0 where
 
 abbrev row : List (ℕ × ℕ) → ℕ → List Fraction → Threshold → Row
 row counts start l t = record { counts = counts; start-at = start; on-the-way = l; answer = t }
-
--- a histogram of 256 counts
-abbrev pub histogram : List (ℕ × ℕ) → List ℕ
-histogram [] = replicate 256 0
-histogram (c ∷ cs) = set (histogram cs) (c .0) (c .1)
 
 -- The row holds of a histogram: from the start v the thresholds are those of the walk; and whatever the promise permits is t.
 abbrev pub Holds : List ℕ → ℕ → List Fraction → Threshold → Type 0

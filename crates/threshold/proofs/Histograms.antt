@@ -1,11 +1,11 @@
--- Laws of counting: which values can be counted, what one value more and what two parts add to a histogram, and that its total is
--- the number of values. Assumes nothing.
-use mathlib.Core.Path.{_≡_, refl, sym, ap, _∙_}
+-- Laws of counting: which values can be counted, what one value more adds to a histogram, and that its total is the number of values.
+-- Assumes nothing.
+use mathlib.Core.Path.{_≡_, refl, sym, _∙_}
 use mathlib.Core.Bool.{true, false, cond}
 use mathlib.Core.List.{List}
 use mathlib.Core.Logic.{_≢_, ⊎-elim}
 use Prim.Native.Nat.{ℕ, zero, suc, _+_, _/_, _<_, _≤_, max, zero-le}
-use native.Mathlib.Nat.{zero-add, add-assoc, le-max-left, le-max-right, max-le, le-trans, not-le-of-lt}
+use native.Mathlib.Nat.{le-max-left, le-max-right, max-le, le-trans, not-le-of-lt}
 use native.Mathlib.Numerals.{add-one}
 use native.Mathlib.Decide.{decLt, ℕ-discrete}
 use native.Mathlib.Omega.{arith}
@@ -17,11 +17,11 @@ use Rattle.numbers.specs.Refusals.{Unless}
 use Rattle.numbers.specs.Greatest.{Least}
 use Rattle.numbers.specs.Lists.{AtMost}
 use Rattle.numbers.specs.Sums.{sum}
-use Rattle.numbers.proofs.Refusals.{stops, goes-on, alike}
+use Rattle.numbers.proofs.Refusals.{stops, goes-on}
 use Rattle.numbers.proofs.Order.{le-or-lt}
-use Rattle.numbers.proofs.Sums.{sum-none, sum-more, sum-most, sum-same, sum-add, sum-goes-on}
+use Rattle.numbers.proofs.Sums.{sum-none, sum-more, sum-most, sum-same, sum-add}
 use Rattle.threshold.specs.Histogram.{addedAt, countOf, total, Countable, tally, Counted}
-use Rattle.threshold.specs.Asked.{addedFrom, Added}
+use Rattle.threshold.specs.Asked.{addedUpTo, Added}
 
 -- ---- the greatest value
 -- `most` is the greatest of the first i values
@@ -98,54 +98,47 @@ ones x (suc n) h = elim (ℕ-discrete n (x / 8)) [
   | no d ↦ omega (arith, ones x n (omega arith), one-elsewhere x n d)
 ]
 
-module _ (values : List ℕ) (a : ℕ) where
+module _ (values : List ℕ) where
   -- no values add nothing
-  added-none : (v : ℕ) → addedFrom values a 0 v ≡ 0
-  unfolding addedFrom
-  added-none v = sum-none (λ i. one (getD values (a + i) 0) v)
+  added-none : (v : ℕ) → addedUpTo values 0 v ≡ 0
+  unfolding addedUpTo
+  added-none v = sum-none (λ i. one (getD values i 0) v)
 
   -- one value more adds one at its level
-  added-more : (n v : ℕ) → addedFrom values a (n + 1) v ≡ addedFrom values a n v + one (getD values (a + n) 0) v
-  unfolding addedFrom
-  added-more n v = sum-more n (λ i. one (getD values (a + i) 0) v)
-
-  -- two parts, one after the other
-  added-parts : (m n v : ℕ) → addedFrom values a m v + addedFrom values (a + m) n v ≡ addedFrom values a (m + n) v
-  unfolding addedFrom
-  added-parts m n v =
-      sum-goes-on m n (λ i. one (getD values (a + i) 0) v) (λ i. one (getD values (a + m + i) 0) v)
-      (λ i h. ap (λ (k : ℕ). one (getD values k 0) v) (add-assoc a m i))
+  added-more : (n v : ℕ) → addedUpTo values (n + 1) v ≡ addedUpTo values n v + one (getD values n 0) v
+  unfolding addedUpTo
+  added-more n v = sum-more n (λ i. one (getD values i 0) v)
 
   -- n values add at most n
-  added-most : (n v : ℕ) → addedFrom values a n v ≤ n
-  unfolding addedFrom
-  added-most n v = omega (arith, sum-most 1 n (λ i. one (getD values (a + i) 0) v) (λ i. one-most (getD values (a + i) 0) v))
+  added-most : (n v : ℕ) → addedUpTo values n v ≤ n
+  unfolding addedUpTo
+  added-most n v = omega (arith, sum-most 1 n (λ i. one (getD values i 0) v) (λ i. one-most (getD values i 0) v))
 
   -- at all levels together, n values that can be counted add n
-  added-all : Countable values → (n : ℕ) → sum 256 (addedFrom values a n) ≡ n
-  added-all ok zero = omega (arith, sum-most 0 256 (addedFrom values a 0) (λ v. omega (arith, added-none v)))
+  added-all : Countable values → (n : ℕ) → sum 256 (addedUpTo values n) ≡ n
+  added-all ok zero = omega (arith, sum-most 0 256 (addedUpTo values 0) (λ v. omega (arith, added-none v)))
   added-all ok (suc n) =
-      let x : ℕ = getD values (a + n) 0 in
+      let x : ℕ = getD values n 0 in
       omega (
         arith,
-        sum-same 256 (addedFrom values a (suc n)) (λ v. addedFrom values a n v + one x v) (λ v h. rw (← add-one n) (added-more n v)),
-        sum-add 256 (addedFrom values a n) (one x),
+        sum-same 256 (addedUpTo values (suc n)) (λ v. addedUpTo values n v + one x v) (λ v h. rw (← add-one n) (added-more n v)),
+        sum-add 256 (addedUpTo values n) (one x),
         added-all ok n,
-        ones x 256 (level-below values (a + n) ok),
+        ones x 256 (level-below values n ok),
       )
 
   -- ---- the counts, one value after the other
   -- of no values: a zero in each place
-  pub counts-none : Added values a 0 (replicate 256 0)
+  pub counts-none : Added values 0 (replicate 256 0)
   counts-none = record { places = length-replicate {A = ℕ} 256 0; counts-are = λ v h. getD-replicate 256 v 0 0 h ∙ sym (added-none v) }
 
-  -- one value more, that of place k
-  pub counts-more : Countable values → (n k : ℕ) (counts : List ℕ) → k ≡ a + n → Added values a n counts
-      → let l = getD values k 0 / 8 in Added values a (n + 1) (set counts l (getD counts l 0 + 1))
-  counts-more ok n k counts next so-far = record { places = length-set counts l more ∙ so-far .places; counts-are = are }
+  -- one value more
+  pub counts-more : Countable values → (n : ℕ) (counts : List ℕ) → Added values n counts
+      → let l = getD values n 0 / 8 in Added values (n + 1) (set counts l (getD counts l 0 + 1))
+  counts-more ok n counts so-far = record { places = length-set counts l more ∙ so-far .places; counts-are = are }
     where
       x : ℕ
-      x = getD values k 0
+      x = getD values n 0
 
       l : ℕ
       l = x / 8
@@ -154,58 +147,39 @@ module _ (values : List ℕ) (a : ℕ) where
       more = getD counts l 0 + 1
 
       here : l < 256
-      here = level-below values k ok
+      here = level-below values n ok
 
-      at-it : countOf (set counts l more) l ≡ addedFrom values a n l + one x l
-      at-it = getD-set-same counts l more 0 (omega (arith, so-far .places, here)) ∙ omega (arith, so-far .counts-are l here, one-at x l refl)
+      at-it : countOf (set counts l more) l ≡ addedUpTo values n l + one x l
+      at-it =
+          getD-set-same counts l more 0 (omega (arith, so-far .places, here))
+          ∙ omega (arith, so-far .counts-are l here, one-at x l refl)
 
-      are : (v : ℕ) → v < 256 → countOf (set counts l more) v ≡ addedFrom values a (n + 1) v
-      are v h = rw (added-more n v, ← next) (elim (ℕ-discrete v l) [
+      are : (v : ℕ) → v < 256 → countOf (set counts l more) v ≡ addedUpTo values (n + 1) v
+      are v h = rw (added-more n v) (elim (ℕ-discrete v l) [
         | yes e ↦ rw e at-it
         | no d ↦ getD-set-other counts l v more 0 d ∙ omega (arith, so-far .counts-are v h, one-elsewhere x v d)
       ])
 
-  -- no place has more than there are values
-  pub counts-most : Countable values → (n : ℕ) (counts : List ℕ) → n ≤ length values → Added values a n counts → AtMost 1048576 counts
-  counts-most ok n counts part so-far v = elim (decLt v 256) [
-    | yes h ↦ omega (arith, so-far .counts-are v h, added-most n v, ok .few)
-    | no h ↦ rw (List·getD-eq-default counts 0 {n = v} (omega (arith, so-far .places))) zero-le
-  ]
-
-  -- so there is room for one more at the level of any value
-  pub counts-room : Countable values → (n k : ℕ) (counts : List ℕ) → n ≤ length values → Added values a n counts
-      → let l = getD values k 0 / 8 in (l < 256) × (getD counts l 0 ≤ 1048576)
-  counts-room ok n k counts part so-far = (level-below values k ok, counts-most ok n counts part so-far (getD values k 0 / 8))
-
--- the counts of two parts, added place by place
-pub counts-together : (values early late counts : List ℕ) (m n : ℕ) → m + n ≡ length values → Added values 0 m early → Added values m n late
-    → (length counts ≡ 256) × ((v : ℕ) → v < 256 → getD counts v 0 ≡ getD early v 0 + getD late v 0) → Added values 0 (length values) counts
-counts-together values early late counts m n all e l r =
-    rw (← all)
-    (record {
-      places = r .0;
-      counts-are = λ v h. r .1 v h ∙ rw (e .counts-are v h, l .counts-are v h) (rw (zero-add m) at (added-parts values 0 m n v));
-    })
+  -- there is room for it: its level is one of 256, and no place has more than there are values
+  pub counts-room : Countable values → (n : ℕ) (counts : List ℕ) → n ≤ length values → Added values n counts
+      → let l = getD values n 0 / 8 in (l < 256) × (getD counts l 0 ≤ 1048576)
+  counts-room ok n counts part so-far =
+      let l = getD values n 0 / 8 in
+      let here : l < 256 = level-below values n ok in
+      (here, omega (arith, so-far .counts-are l here, added-most n l, ok .few))
 
 -- ---- the histogram
--- all values are those from the first on
-added-whole : (values : List ℕ) (v : ℕ) → addedAt values v ≡ addedFrom values 0 (length values) v
-unfolding addedAt addedFrom
-added-whole values v =
-    sum-same (length values) (λ i. one (getD values i 0) v) (λ i. one (getD values (0 + i) 0) v)
-    (λ i h. ap (λ (k : ℕ). one (getD values k 0) v) (sym (zero-add i)))
-
 -- what is counted and put into the histogram
-pub count-done : (values counts histogram : List ℕ) → Countable values → Added values 0 (length values) counts → histogram ≡ counts
+pub count-done : (values counts histogram : List ℕ) → Countable values → Added values (length values) counts → histogram ≡ counts
     → Counted values (tally 0 histogram)
-unfolding total
+unfolding total addedAt addedUpTo
 count-done values counts histogram ok all put =
     rw put
     (record {
       number = refl;
       places = all .places;
-      counts = λ v h. alike (all .counts-are v h) (added-whole values v);
+      counts = all .counts-are;
       total-is =
           rw (all .places)
-          (sum-same 256 (countOf counts) (addedFrom values 0 (length values)) (all .counts-are) ∙ added-all values 0 ok (length values));
+          (sum-same 256 (countOf counts) (addedUpTo values (length values)) (all .counts-are) ∙ added-all values ok (length values));
     })

@@ -9,14 +9,14 @@ use Rattle.numbers.specs.Sums.{sum}
 use Rattle.threshold.specs.Histogram.{countOf, total}
 use Rattle.threshold.specs.TwoMeans.{levelSum}
 
--- what n of the values, from place a on, add at level v
-unfoldable pub addedFrom : List ℕ → ℕ → ℕ → ℕ → ℕ
-addedFrom values a n v = sum n (λ i. cond (eqb (getD values (a + i) 0 / 8) v) 1 0)
+-- what the first n values add at level v
+unfoldable pub addedUpTo : List ℕ → ℕ → ℕ → ℕ
+addedUpTo values n v = sum n (λ i. cond (eqb (getD values i 0 / 8) v) 1 0)
 
 -- their counts
-pub record Added (values : List ℕ) (a n : ℕ) (counts : List ℕ) : Type 0 where
+pub record Added (values : List ℕ) (n : ℕ) (counts : List ℕ) : Type 0 where
   pub places : length counts ≡ 256
-  pub counts-are : (v : ℕ) → v < 256 → countOf counts v ≡ addedFrom values a n v
+  pub counts-are : (v : ℕ) → v < 256 → countOf counts v ≡ addedUpTo values n v
 
 -- the two tables, up to level n: at place v how many values were counted below level v, and the sum of their levels
 pub record Filled (h : List ℕ) (n : ℕ) (counted summed : List ℕ) : Type 0 where

@@ -1,3 +1,4 @@
 pub mod Histogram
 pub mod TwoMeans
 pub mod Asked
+pub mod Worked

@@ -8,7 +8,13 @@ use Rattle.calls.proofs.serve.Statement.{statement}
 use Rattle.calls.proofs.serve.Tie as tie
 
 abbrev Inv-loop : tie.InvT-loop
-Inv-loop block₀ levels₀ one₀ two₀ counts₀ answered₀ block levels one two counts answered = (32 ≤ length block) × (length block ≡ length block₀) × (length levels ≡ length levels₀) × (length one ≡ length one₀) × (length two ≡ length two₀) × (length counts ≡ length counts₀)
+Inv-loop block₀ levels₀ one₀ two₀ counts₀ answered₀ block levels one two counts answered =
+    (32 ≤ length block)
+    × (length block ≡ length block₀)
+    × (length levels ≡ length levels₀)
+    × (length one ≡ length one₀)
+    × (length two ≡ length two₀)
+    × (length counts ≡ length counts₀)
 
 abbrev μ-loop : tie.MeasureT-loop
 μ-loop block₀ levels₀ one₀ two₀ counts₀ answered₀ block levels one two counts answered = 18446744073709551615 - answered

@@ -1,7 +1,9 @@
 -- `records::by_kind` meets its contract: each arm is one kind. Assumes nothing.
-use mathlib.Core.Path.{_≡_, ap}
+use mathlib.Core.Path.{_≡_, refl, ap}
 use native.Mathlib.Omega.{arith}
-use Rattle.records.specs.declared.Record.the-variants.{Picture, Pixel}
+use Rattle.units.specs.declared.Picometres.{Picometres}
+use Rattle.records.specs.declared.Record.the-variants.{Pixel}
+use Rattle.records.specs.Records.{answerOf}
 use Rattle.records.proofs.Bodies.{third, ends-by}
 use Rattle.records.proofs.by_kind.Statement.{statement}
 use Rattle.records.proofs.by_kind.Tie as tie
@@ -18,19 +20,15 @@ pixel-size-requires c κs =
     omega arith
 
 returns : tie.Need-returns
-returns c =
-    let s = c .before .before in
-    rw (c .match .keys1) (ap (Picture 16 (s .args .start)) (ends-by (s .args .start) (c .match .keys1) (s .pre .1)))
+returns c = rw (c .match .keys1) refl
 
 returns-2 : tie.Need-returns-2
-returns-2 c =
-    let s = c .before .before in
-    rw (c .match .keys2) (ap (Picture 64 (s .args .start)) (ends-by (s .args .start) (c .match .keys2) (s .pre .1)))
+returns-2 c = rw (c .match .keys2) refl
 
 returns-3 : tie.Need-returns-3
 returns-3 c =
-    let s = c .before .before .before in
-    rw (is-third (c .before)) (λ i. Pixel (c .pixel-size .ensures i) (ends-by (s .args .start) (is-third (c .before)) (s .pre .1) i))
+    rw (is-third (c .before))
+    (ap (λ (size : Picometres). answerOf (Pixel size (c .before .before .before .args .end))) (c .pixel-size .ensures))
 
 pub by-kind-spec : {M : Type 1} → statement M
 by-kind-spec = tie.close (tie.spec pixel-size-requires returns returns-2 returns-3)

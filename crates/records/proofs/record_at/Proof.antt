@@ -1,13 +1,14 @@
 -- `records::record_at` meets its contract: each test is one number's condition, in the order of the definition. Assumes nothing.
-use mathlib.Core.Path.{_≡_, refl}
-use Prim.Native.Nat.{_≤_, _<_}
+use mathlib.Core.Path.{_≡_, refl, ap, _∙_}
+use Prim.Native.Nat.{ℕ, _+_, _≤_, _<_}
 use native.Mathlib.Omega.{arith}
 use borrow.Author.Needs.{needs}
 use denote.Ref.{now}
 use lib.ListN.{length}
 use Rattle.numbers.specs.Refusals.{Unless}
 use Rattle.numbers.proofs.Refusals.{stops, goes-on}
-use Rattle.records.specs.Records.{byte, Known, bodyLength}
+use Rattle.numbers.specs.Bytes.{byte}
+use Rattle.records.specs.Records.{Known, bodyLength, byKind}
 use Rattle.records.proofs.Bodies.{told-unknown, told-known}
 use Rattle.records.proofs.record_at.Statement.{statement}
 use Rattle.records.proofs.record_at.Tie as tie
@@ -56,9 +57,11 @@ by-kind-requires c κs = let k = known (c .before) in (k .0, let size = k .1 in 
 
 returns-5 : tie.Need-returns-5
 returns-5 c =
+    let past-kind = c .before .before .before .before .before in
+    let a = past-kind .before .before .before .args in
     let k = known (c .before .before) in
-    begun (c .before .before .before .before .before)
-    (goes-on (k .0) (goes-on (let size = k .1 in omega arith) (c .by-kind .ensures)))
+    let ends = ap (λ (n : ℕ). byKind (now (a .input)) (byte (now (a .input)) (a .at)) (a .at + 1) (a .at + 1 + n)) (k .1) in
+    begun past-kind (goes-on (k .0) (goes-on (let size = k .1 in omega arith) (c .by-kind .ensures ∙ ends)))
 
 pub record-at-spec : {M : Type 1} → statement M
 record-at-spec =

@@ -16,6 +16,9 @@ abbrev μ-loop : tie.MeasureT-loop
 store-requires : tie.Need-store-requires Inv-loop μ-loop
 store-requires c κs = search needs
 
+store-requires-2 : tie.Need-store-requires-2 Inv-loop μ-loop
+store-requires-2 c κs = search needs
+
 loop-holds : tie.Need-loop-holds Inv-loop μ-loop
 loop-holds c = search needs
 
@@ -25,8 +28,17 @@ mul-put c = omega arith
 shared-slice-read-put : tie.Need-shared-slice-read-put Inv-loop μ-loop
 shared-slice-read-put c = omega arith
 
+after-requires : tie.Need-after-requires Inv-loop μ-loop
+after-requires c κs = search needs
+
 put-requires : tie.Need-put-requires Inv-loop μ-loop
 put-requires c κs = search needs
+
+same-length : tie.Need-same-length Inv-loop μ-loop
+same-length c = omega arith
+
+returns : tie.Need-returns Inv-loop μ-loop
+returns c = search needs
 
 add-i : tie.Need-add-i Inv-loop μ-loop
 add-i c = omega arith
@@ -37,14 +49,14 @@ loop-less c = omega arith
 loop-again : tie.Need-loop-again Inv-loop μ-loop
 loop-again c = search needs
 
-end-requires : tie.Need-end-requires Inv-loop μ-loop
-end-requires c κs = search needs
+so-far-requires : tie.Need-so-far-requires Inv-loop μ-loop
+so-far-requires c κs = search needs
 
-same-length : tie.Need-same-length Inv-loop μ-loop
-same-length c = omega arith
+same-length-2 : tie.Need-same-length-2 Inv-loop μ-loop
+same-length-2 c = omega arith
 
-returns : tie.Need-returns Inv-loop μ-loop
-returns c = search needs
+returns-2 : tie.Need-returns-2 Inv-loop μ-loop
+returns-2 c = search needs
 
 pub line-spec : {M : Type 1} → statement M
 line-spec =
@@ -53,13 +65,17 @@ line-spec =
     Inv-loop
     μ-loop
     store-requires
+    store-requires-2
     loop-holds
     mul-put
     shared-slice-read-put
+    after-requires
     put-requires
+    same-length
+    returns
     add-i
     loop-less
     loop-again
-    end-requires
-    same-length
-    returns)
+    so-far-requires
+    same-length-2
+    returns-2)

@@ -1,18 +1,25 @@
--- `calls::answer::send` meets its contract. Assumes nothing.
+-- `calls::answer::send` is safe. Assumes nothing.
 use mathlib.Core.Path.{sym}
+use native.Mathlib.Omega.{arith}
 use borrow.Author.Needs.{needs}
 use lib.Seq.{length-take-le}
 use Rattle.calls.proofs.answer.send.Statement.{statement}
 use Rattle.calls.proofs.answer.send.Tie as tie
 
-slice-aggregate-write-all : tie.Need-slice-aggregate-write-all
-slice-aggregate-write-all c = sym (length-take-le _ _ (c .before .before .pre))
-
-write-all-requires : tie.Need-write-all-requires
-write-all-requires c κs = search needs
-
 returns : tie.Need-returns
 returns c = search needs
 
+slice-aggregate-write : tie.Need-slice-aggregate-write
+slice-aggregate-write c = sym (length-take-le _ _ (omega arith))
+
+write-requires : tie.Need-write-requires
+write-requires c κs = search needs
+
+returns-2 : tie.Need-returns-2
+returns-2 c = search needs
+
+returns-3 : tie.Need-returns-3
+returns-3 c = search needs
+
 pub send-spec : {M : Type 1} → statement M
-send-spec = tie.close (tie.spec slice-aggregate-write-all write-all-requires returns)
+send-spec = tie.close (tie.spec returns slice-aggregate-write write-requires returns-2 returns-3)

@@ -8,10 +8,13 @@ use Rattle.calls.proofs.answer.values.Statement.{statement}
 use Rattle.calls.proofs.answer.values.Tie as tie
 
 abbrev Inv-loop : tie.InvT-loop
-Inv-loop block₀ at s to₀ i₀ block to i = Writing block₀ block to
+Inv-loop block₀ s at₀ i₀ block at i = Writing block₀ block at
 
 abbrev μ-loop : tie.MeasureT-loop
-μ-loop block₀ at s to₀ i₀ block to i = length s - i
+μ-loop block₀ s at₀ i₀ block at i = length s - i
+
+returns : tie.Need-returns Inv-loop μ-loop
+returns c = search needs
 
 end-requires : tie.Need-end-requires Inv-loop μ-loop
 end-requires c κs = search needs
@@ -19,17 +22,8 @@ end-requires c κs = search needs
 same-length : tie.Need-same-length Inv-loop μ-loop
 same-length c = omega arith
 
-returns : tie.Need-returns Inv-loop μ-loop
-returns c = search needs
-
-shared-slice-read-wide-value : tie.Need-shared-slice-read-wide-value Inv-loop μ-loop
-shared-slice-read-wide-value c = omega arith
-
-wide-value-requires : tie.Need-wide-value-requires Inv-loop μ-loop
-wide-value-requires c κs = search needs
-
-first-requires : tie.Need-first-requires Inv-loop μ-loop
-first-requires c κs = search needs
+returns-2 : tie.Need-returns-2 Inv-loop μ-loop
+returns-2 c = search needs
 
 loop-holds : tie.Need-loop-holds Inv-loop μ-loop
 loop-holds c = search needs
@@ -37,14 +31,23 @@ loop-holds c = search needs
 mul-wide-value : tie.Need-mul-wide-value Inv-loop μ-loop
 mul-wide-value c = omega arith
 
-shared-slice-read-wide-value-2 : tie.Need-shared-slice-read-wide-value-2 Inv-loop μ-loop
-shared-slice-read-wide-value-2 c = omega arith
+shared-slice-read-wide-value : tie.Need-shared-slice-read-wide-value Inv-loop μ-loop
+shared-slice-read-wide-value c = omega arith
 
-wide-value-requires-2 : tie.Need-wide-value-requires-2 Inv-loop μ-loop
-wide-value-requires-2 c κs = search needs
+wide-value-requires : tie.Need-wide-value-requires Inv-loop μ-loop
+wide-value-requires c κs = search needs
+
+after-requires : tie.Need-after-requires Inv-loop μ-loop
+after-requires c κs = search needs
 
 put-requires : tie.Need-put-requires Inv-loop μ-loop
 put-requires c κs = search needs
+
+same-length-2 : tie.Need-same-length-2 Inv-loop μ-loop
+same-length-2 c = omega arith
+
+returns-3 : tie.Need-returns-3 Inv-loop μ-loop
+returns-3 c = search needs
 
 add-i : tie.Need-add-i Inv-loop μ-loop
 add-i c = omega arith
@@ -55,14 +58,14 @@ loop-less c = omega arith
 loop-again : tie.Need-loop-again Inv-loop μ-loop
 loop-again c = search needs
 
-end-requires-2 : tie.Need-end-requires-2 Inv-loop μ-loop
-end-requires-2 c κs = search needs
+so-far-requires : tie.Need-so-far-requires Inv-loop μ-loop
+so-far-requires c κs = search needs
 
-same-length-2 : tie.Need-same-length-2 Inv-loop μ-loop
-same-length-2 c = omega arith
+same-length-3 : tie.Need-same-length-3 Inv-loop μ-loop
+same-length-3 c = omega arith
 
-returns-2 : tie.Need-returns-2 Inv-loop μ-loop
-returns-2 c = search needs
+returns-4 : tie.Need-returns-4 Inv-loop μ-loop
+returns-4 c = search needs
 
 pub values-spec : {M : Type 1} → statement M
 values-spec =
@@ -70,20 +73,21 @@ values-spec =
     (tie.spec
     Inv-loop
     μ-loop
+    returns
     end-requires
     same-length
-    returns
-    shared-slice-read-wide-value
-    wide-value-requires
-    first-requires
+    returns-2
     loop-holds
     mul-wide-value
-    shared-slice-read-wide-value-2
-    wide-value-requires-2
+    shared-slice-read-wide-value
+    wide-value-requires
+    after-requires
     put-requires
+    same-length-2
+    returns-3
     add-i
     loop-less
     loop-again
-    end-requires-2
-    same-length-2
-    returns-2)
+    so-far-requires
+    same-length-3
+    returns-4)

@@ -1,60 +1,46 @@
 -- `calls::request::count_buffer` meets its contract. Assumes nothing.
 use borrow.Author.Needs.{needs}
-use Rattle.calls.proofs.Laws.{still}
+use denote.Ref.{now}
+use Rattle.calls.proofs.Laws.{lent-room}
 use Rattle.calls.proofs.request.count_buffer.Statement.{statement}
 use Rattle.calls.proofs.request.count_buffer.Tie as tie
 
-size-requires : tie.Need-size-requires
-size-requires c κs = search needs
+slice-aggregate-fill : tie.Need-slice-aggregate-fill
+slice-aggregate-fill c = search needs
 
-cut-requires : tie.Need-cut-requires
-cut-requires c κs = search needs
+fill-requires : tie.Need-fill-requires
+fill-requires c κs = search needs
+
+nothing-requires : tie.Need-nothing-requires
+nothing-requires c κs = search needs
 
 returns : tie.Need-returns
 returns c = search needs
 
-number-requires : tie.Need-number-requires
-number-requires c κs = search needs
-
-enum-known-v : tie.Need-enum-known-v
-enum-known-v c = search needs
-
-enum-told : tie.Need-enum-told
-enum-told c = search needs
-
-cut-requires-2 : tie.Need-cut-requires-2
-cut-requires-2 c κs = search needs
-
-returns-2 : tie.Need-returns-2
-returns-2 c = search needs
-
-cast-fill-counts : tie.Need-cast-fill-counts
-cast-fill-counts c = search needs
-
-fill-counts-requires : tie.Need-fill-counts-requires
-fill-counts-requires c κs = search needs
+lent-counts-requires : tie.Need-lent-counts-requires
+lent-counts-requires c κs = search needs
 
 same-length : tie.Need-same-length
 same-length c = search needs
 
-returns-3 : tie.Need-returns-3
-returns-3 c =
-    let sized = c .before .before .before .before .before .before .before .before .before .before in
-    still _ (sized .before .before .args .space .now) _ (sized .size .ensures) (c .before .before .fill-counts .kept .0)
+returns-2 : tie.Need-returns-2
+returns-2 c =
+    let after-lent = c .before .before in
+    let else = after-lent .before .before .before in
+    let after-fill = else .before .before in
+    let at-start = after-fill .before .before .before in
+    lent-room 4294967296 (after-fill .fill .last .0) (now (at-start .args .space)) _ (after-lent .lent-counts .result)
+    (after-lent .lent-counts .ensures)
+    (after-lent .lent-counts .kept .1 .0)
 
 pub count-buffer-spec : {M : Type 1} → statement M
 count-buffer-spec =
     tie.close
     (tie.spec
-    size-requires
-    cut-requires
+    slice-aggregate-fill
+    fill-requires
+    nothing-requires
     returns
-    number-requires
-    enum-known-v
-    enum-told
-    cut-requires-2
-    returns-2
-    cast-fill-counts
-    fill-counts-requires
+    lent-counts-requires
     same-length
-    returns-3)
+    returns-2)

@@ -1,20 +1,23 @@
--- `calls::request::join_fours` is safe and ends: it keeps the space's length. Assumes nothing.
-use Prim.Native.Nat.{_-_}
+-- `calls::request::join_fours` meets its contract: after i turns the first i elements are joined. Assumes nothing.
+use mathlib.Core.Path.{_≡_}
+use Prim.Native.Nat.{_*_, _-_, _≤_}
 use native.Mathlib.Omega.{arith}
 use borrow.Author.Needs.{needs}
-use lib.ListN.{length}
-use Rattle.calls.proofs.Laws.{Filling}
+use denote.Ref.{now}
+use Rattle.numbers.specs.Bytes.{fourBytes}
+use Rattle.numbers.proofs.LittleEndian.{of-pairs}
+use Rattle.numbers.proofs.Writing.{Overwritten, overwritten-none, overwritten-front}
 use Rattle.calls.proofs.request.join_fours.Statement.{statement}
 use Rattle.calls.proofs.request.join_fours.Tie as tie
 
 abbrev Inv-loop : tie.InvT-loop
-Inv-loop b space₀ n i₀ space i = Filling n space₀ space i
+Inv-loop b space₀ n i₀ space i = (i ≤ n) × Overwritten space₀ 0 (λ j. fourBytes b (4 * j)) space i
 
 abbrev μ-loop : tie.MeasureT-loop
 μ-loop b space₀ n i₀ space i = n - i
 
 loop-holds : tie.Need-loop-holds Inv-loop μ-loop
-loop-holds c = search needs
+loop-holds c = (omega arith, overwritten-none (now (c .before .before .args .space)) 0 _)
 
 mul-j : tie.Need-mul-j Inv-loop μ-loop
 mul-j c = omega arith
@@ -62,13 +65,23 @@ loop-less : tie.Need-loop-less Inv-loop μ-loop
 loop-less c = omega arith
 
 loop-again : tie.Need-loop-again Inv-loop μ-loop
-loop-again c = search needs
+loop-again c =
+    let after-high = c .before in
+    let after-low = after-high .before .before .before in
+    let at-loop = after-low .before .before .before .before in
+    let turn = at-loop .loop in
+    let given = at-loop .before .before .before .args in
+    let joined = of-pairs (now (given .b)) (4 * turn .i) _ _ _ (after-low .pair .ensures) (after-high .pair2 .ensures) (c .four .ensures) in
+    (omega arith, overwritten-front (now (given .space)) _ (turn .space) (turn .i) _ (omega arith) joined (turn .inv .1))
 
 same-length : tie.Need-same-length Inv-loop μ-loop
 same-length c = omega arith
 
 returns : tie.Need-returns Inv-loop μ-loop
-returns c = search needs
+returns c =
+    let turn = c .before .loop in
+    let all : c .before .before .before .before .args .n ≡ turn .i = omega arith in
+    rw all (turn .inv .1 .is)
 
 pub join-fours-spec : {M : Type 1} → statement M
 join-fours-spec =

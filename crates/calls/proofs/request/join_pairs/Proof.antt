@@ -1,20 +1,24 @@
--- `calls::request::join_pairs` is safe and ends: it keeps the space's length. Assumes nothing.
-use Prim.Native.Nat.{_-_}
+-- `calls::request::join_pairs` meets its contract: after i turns the first i elements are joined. Assumes nothing.
+use mathlib.Core.Path.{_≡_}
+use Prim.Native.Nat.{_*_, _-_, _≤_}
 use native.Mathlib.Omega.{arith}
 use borrow.Author.Needs.{needs}
-use lib.ListN.{length}
-use Rattle.calls.proofs.Laws.{Filling}
+use denote.Ref.{now}
+use Rattle.numbers.specs.Bytes.{twoBytes}
+use Rattle.numbers.proofs.Writing.{Overwritten, overwritten-none, overwritten-more}
 use Rattle.calls.proofs.request.join_pairs.Statement.{statement}
 use Rattle.calls.proofs.request.join_pairs.Tie as tie
 
 abbrev Inv-loop : tie.InvT-loop
-Inv-loop b space₀ at k i₀ space i = Filling k space₀ space i
+Inv-loop b space₀ at k i₀ space i = (i ≤ k) × Overwritten space₀ at (λ j. twoBytes b (2 * j)) space i
 
 abbrev μ-loop : tie.MeasureT-loop
 μ-loop b space₀ at k i₀ space i = k - i
 
 loop-holds : tie.Need-loop-holds Inv-loop μ-loop
-loop-holds c = search needs
+loop-holds c =
+    let given = c .before .before .args in
+    (omega arith, overwritten-none (now (given .space)) (given .at) _)
 
 mul-j : tie.Need-mul-j Inv-loop μ-loop
 mul-j c = omega arith
@@ -47,13 +51,21 @@ loop-less : tie.Need-loop-less Inv-loop μ-loop
 loop-less c = omega arith
 
 loop-again : tie.Need-loop-again Inv-loop μ-loop
-loop-again c = search needs
+loop-again c =
+    let at-loop = c .before .before .before .before in
+    let turn = at-loop .loop in
+    let given = at-loop .before .before .before .args in
+    let joined = c .pair .ensures in
+    (omega arith, overwritten-more (now (given .space)) (given .at) _ (turn .space) (turn .i) _ (omega arith) (omega arith) (turn .inv .1))
 
 same-length : tie.Need-same-length Inv-loop μ-loop
 same-length c = omega arith
 
 returns : tie.Need-returns Inv-loop μ-loop
-returns c = search needs
+returns c =
+    let turn = c .before .loop in
+    let all : c .before .before .before .before .args .k ≡ turn .i = omega arith in
+    rw all (turn .inv .1 .is)
 
 pub join-pairs-spec : {M : Type 1} → statement M
 join-pairs-spec =

@@ -1,39 +1,39 @@
 -- `calls::request::size` meets its contract: what is taken has room, and where nothing is taken so has that. Assumes nothing.
-use mathlib.Core.Logic.{⊎-elim}
 use native.Mathlib.Omega.{arith}
 use borrow.Author.Needs.{needs}
+use Rattle.calls.proofs.Laws.{taken-room}
 use Rattle.calls.proofs.request.size.Statement.{statement}
 use Rattle.calls.proofs.request.size.Tie as tie
 
-number-requires : tie.Need-number-requires
-number-requires c κs = search needs
+slice-aggregate-fill : tie.Need-slice-aggregate-fill
+slice-aggregate-fill c = search needs
 
-enum-known-n : tie.Need-enum-known-n
-enum-known-n c = search needs
+fill-requires : tie.Need-fill-requires
+fill-requires c κs = search needs
 
-enum-told : tie.Need-enum-told
-enum-told c = search needs
-
-cut-requires : tie.Need-cut-requires
-cut-requires c κs = search needs
+nothing-requires : tie.Need-nothing-requires
+nothing-requires c κs = search needs
 
 returns : tie.Need-returns
-returns c = omega (arith, c .cut .ensures .1)
+returns c = omega (arith, c .nothing .ensures .1)
+
+number-requires : tie.Need-number-requires
+number-requires c κs = search needs
 
 within-requires : tie.Need-within-requires
 within-requires c κs = search needs
 
 returns-2 : tie.Need-returns-2
-returns-2 c = ⊎-elim (λ none. omega (arith, none .1 .1)) (λ all. omega (arith, all .0, all .1 .1)) (c .within .ensures)
+returns-2 c = taken-room _ _ _ (c .within .ensures)
 
 pub size-spec : {M : Type 1} → statement M
 size-spec =
     tie.close
     (tie.spec
-    number-requires
-    enum-known-n
-    enum-told
-    cut-requires
+    slice-aggregate-fill
+    fill-requires
+    nothing-requires
     returns
+    number-requires
     within-requires
     returns-2)

@@ -7,6 +7,12 @@ use Rattle.calls.proofs.request.values.Tie as tie
 size-requires : tie.Need-size-requires
 size-requires c κs = search needs
 
+nothing-requires : tie.Need-nothing-requires
+nothing-requires c κs = search needs
+
+returns : tie.Need-returns
+returns c = search needs
+
 large-buffer-requires : tie.Need-large-buffer-requires
 large-buffer-requires c κs = search needs
 
@@ -16,33 +22,36 @@ slice-aggregate-pairs c = search needs
 pairs-requires : tie.Need-pairs-requires
 pairs-requires c κs = search needs
 
+nothing-requires-2 : tie.Need-nothing-requires-2
+nothing-requires-2 c κs = search needs
+
 same-length : tie.Need-same-length
 same-length c = search needs
 
-returns : tie.Need-returns
-returns c =
-    let sized = c .before .before .before .before .before .before .before .before in
-    still _ (sized .before .before .args .space .now) _ (sized .size .ensures) (c .before .before .before .before .pairs .kept .1 .0)
-
-cut-requires : tie.Need-cut-requires
-cut-requires c κs = search needs
+returns-2 : tie.Need-returns-2
+returns-2 c = search needs
 
 same-length-2 : tie.Need-same-length-2
 same-length-2 c = search needs
 
-returns-2 : tie.Need-returns-2
-returns-2 c = search needs
+returns-3 : tie.Need-returns-3
+returns-3 c =
+    let after-pairs = c .before .before .before .before in
+    let after-size = after-pairs .before .before .before .before .before .before in
+    still _ (after-size .before .before .args .space .now) _ (after-size .size .ensures) (after-pairs .pairs .kept .1 .0)
 
 pub values-spec : {M : Type 1} → statement M
 values-spec =
     tie.close
     (tie.spec
     size-requires
+    nothing-requires
+    returns
     large-buffer-requires
     slice-aggregate-pairs
     pairs-requires
+    nothing-requires-2
     same-length
-    returns
-    cut-requires
+    returns-2
     same-length-2
-    returns-2)
+    returns-3)

@@ -6,14 +6,14 @@ use Rattle.numbers.proofs.Refusals.{stops, goes-on}
 use Rattle.calls.proofs.request.within.Statement.{statement}
 use Rattle.calls.proofs.request.within.Tie as tie
 
-cut-requires : tie.Need-cut-requires
-cut-requires c κs = search needs
+nothing-requires : tie.Need-nothing-requires
+nothing-requires c κs = search needs
 
 returns : tie.Need-returns
-returns c = stops (not-le-of-lt (c .before .if1 .taken)) (c .cut .ensures)
+returns c = stops (not-le-of-lt (c .before .if1 .taken)) (c .nothing .ensures)
 
 returns-2 : tie.Need-returns-2
 returns-2 c = goes-on (c .if1 .left) (refl, refl)
 
 pub within-spec : {M : Type 1} → statement M
-within-spec = tie.close (tie.spec cut-requires returns returns-2)
+within-spec = tie.close (tie.spec nothing-requires returns returns-2)

@@ -1,0 +1,231 @@
+"""What .ci/house-test plants: for each rule of the house faults that it must name, and what looks like one and is none."""
+from dataclasses import dataclass
+
+PICTURE, JUDGE, UNITS, NUMBERS, GONG = (f'crates/{name}/src/lib.rt' for name in ('picture', 'judge', 'units', 'numbers', 'gong'))
+SHAPES_OF, VERDICTS = 'crates/picture/proofs/Shapes.antt', 'crates/judge/proofs/Verdicts.antt'
+IN_PICTURE = 'crates/picture/src/m.rt'  # no such file is there
+PAGE, HEADER, README = 'docs/PROMISES.md', 'include/gong.h', 'README.md'
+LOG = 'target/must-fail/picture/side-to-1025/.log'
+
+
+@dataclass
+class Change:
+    """In the file at a path `new` takes the place of `old`, which stands there; of the end, if `old` is nothing. A file that is not
+    there is made; where `new` is None the file is taken away."""
+    path: str
+    old: str
+    new: str
+
+
+@dataclass
+class Planted:
+    """Some changes, and the words that everything which the rule then finds must have: None where it must find nothing."""
+    named: str
+    changes: tuple
+    listed: tuple = ()  # what is listed as undetermined meanwhile
+
+
+def fault(named, *changes, listed=()):
+    return Planted(named, changes, listed)
+
+
+def fine(*changes, listed=()):
+    return Planted(None, changes, listed)
+
+
+def at_end(path, text):
+    return Change(path, '', text)
+
+
+def gone(path):
+    return Change(path, '', None)
+
+
+# A function that keeps every rule of a head. It stands after each planted one, whose contracts its own must not be taken for.
+NEXT = '\n\npub fn next_one(x: u8) -> u8\n    ensures { λ r. ⌜ r ≡ x ⌝ }\n{\n    x\n}\n'
+PROMISE = '\n    ensures { λ r. ⌜ r ≡ x ⌝ }'
+DEMAND = '\n    requires { ⌜ P (record { a = x; b = { x } }) ⌝ }'
+# Public functions of every shape: the signature, and what follows its contracts.
+SHAPES = [
+    ('\npub fn bare(x: u8) -> u8', ' {\n    x\n}'),
+    ('\npub fn bare(x: u8) -> u8', '\n{\n    x\n}'),
+    ('\npub fn bare(x: u8) -> u8', ' { x }'),
+    ('\npub fn bare(\n    x: u8,\n    y: &[u8; 8],\n) -> u8', ' {\n    x\n}'),
+    ('\npub fn bare(x: &[u8; 8]) -> [u8; 8]', '\n{\n    [0; 8]\n}'),
+    ('\npub fn bare(x: &mut u8)', ' {\n    if *x < 1 { *x = b\'{\'; }\n}'),
+    ("\npub fn bare<'a>(x: &'a [u8]) -> &'a [u8]", ' {\n    x\n}'),
+    ('\n#[no_mangle]\npub extern "C" fn bare(x: u8) -> u8', '\n{\n    x\n}'),
+    ('\n// ensures { all }\npub fn bare(x: u8) -> u8 // ensures { all }', '\n{\n    x // requires { }\n}'),
+    ('\n/* { */\npub fn bare(x: u8) -> u8 /* ensures { all } */', ' {\n    x\n}'),
+    ('\nextern "C" {\n    pub fn bare(x: &[u8; 8]) -> u8', ';\n}'),
+]
+
+
+def in_picture(text):
+    return at_end(PICTURE, text + NEXT)
+
+
+def instead_of(path, old, *news):
+    return [Change(path, old, new) for new in news]
+
+
+LAST_PROMISE = '\n        ensures { λ r. ⌜ r ≡ self .0 ⌝ }\n    {\n        self.0 // eighths of a level'
+HAS_ENSURES = [
+    *[fault('picture::bare', in_picture(signature + rest)) for signature, rest in SHAPES],
+    *[fault('picture::bare', in_picture(signature + DEMAND + rest)) for signature, rest in SHAPES],
+    *[fine(in_picture(signature + PROMISE + rest)) for signature, rest in SHAPES],
+    fault('units::Picometres::twice', at_end(UNITS, '\nimpl Picometres {\n    pub fn twice(self) -> u64 {\n        0\n    }\n}\n')),
+    fault('units::Held::bare', at_end(UNITS, "\nimpl<'a> Held<'a> {\n    pub fn bare(self) -> u64 {\n        0\n    }\n}\n")),
+    fault('units::Eighths::amount', Change(UNITS, LAST_PROMISE, ' {')),
+    fault('picture::inner::bare', in_picture('\npub mod inner {\n    pub fn bare() {}\n}\n')),
+    fault('picture::given', in_picture('\nmod m;\npub use m::bare as given;\n'), at_end(IN_PICTURE, 'pub fn bare() {}\n')),
+    fault('picture::bare', in_picture('\nmod m;\npub use m::{bare};\n'), at_end(IN_PICTURE, 'pub fn bare() {}\n')),
+    fault('picture::m::bare', in_picture('\nmod m;\n'), at_end(IN_PICTURE, 'pub fn bare() {}\n')),
+    fault('no rule looks', in_picture('\nfn hides() {\n    pub fn bare() {}\n}\n')),
+    fine(in_picture('\nfn bare() {}\n\npub(crate) fn bare_too() {}\n')),
+]
+
+NO_REQUIRES = [
+    *[fault('picture::bare', in_picture(signature + DEMAND + PROMISE + rest)) for signature, rest in SHAPES],
+    *[fault('picture::bare', in_picture(signature + PROMISE + DEMAND + rest)) for signature, rest in SHAPES],
+    *[fine(in_picture(signature + PROMISE + rest)) for signature, rest in SHAPES],
+    fault('length::halve', Change('crates/length/src/lib.rt', '\nfn halve(', '\npub fn halve(')),
+    fault('judge::noise::spread', Change('crates/judge/src/noise.rt', 'pub(crate) fn spread', 'pub fn spread')),
+]
+
+PROMISED = [
+    fault('picture::next_one is not there', in_picture('')),
+    fault('numbers::', Change(PAGE, '`numbers::bytes::pair`', '`numbers::pair`')),
+    fault('filter::', Change(PAGE, '| call | `filter::sizes`', '| call | `filter::filter`')),
+    # named, but nothing is said of it
+    fault('picture::shape is not there', Change(PAGE, '| call | `picture::shape`', '| as before | `picture::shape`')),
+]
+
+EQUATION = 'λ r. ⌜ r ≡ sixteenths n ⌝'
+TWO_FIELDS = Change(UNITS, 'Sixteenths(i64);', 'Sixteenths(i64, i64);')
+TWO_NAMES = Change(UNITS, 'Sixteenths(i64);', 'Sixteenths {\n    low: i64,\n    high: i64,\n}')
+SENTENCE = 'Determined: each promise is an equation for the result.'
+NO_LAW, NOT_SO = '| determined | `one-size` (proofs/Outcomes.antt) |', '| not determined | nobody knows |'
+THE_SAME = '`one-outcome`, since it is the same promise'
+FILTER_IS = 'FilterIs (now (levels .entry)) width height'
+DETERMINED = [
+    # a promise that is no equation for the result, where the section says that each is one
+    *[fault('units::Sixteenths::of', change) for change in instead_of(
+        UNITS, EQUATION, 'λ r. ⌜ Near r n ⌝', 'λ r. ⌜ r ≡ r ⌝', 'λ r. ⌜ n ≡ n ⌝', 'λ r. ⌜ r ≡ sixteenths (r .0) ⌝',
+        'λ r. ⌜ (r ≡ sixteenths n) ⊎ (r ≡ sixteenths 0) ⌝', 'λ r. ⌜ (n ≡ 0) → (r ≡ sixteenths n) ⌝',
+        'λ r. ⌜ (n ≡ 0) → (n ≡ n) × (r ≡ sixteenths n) ⌝', 'λ r. ⌜ Unless (n ≡ 0) (r ≡ sixteenths n) (r ≡ sixteenths n) ⌝',
+        'λ r. ⌜ r ≡ sixteenths n ⊎ n ≡ 0 ⌝', 'λ r. ⌜ ((r ≡ sixteenths n) ⊎ (n ≡ 0)) × (n ≡ n) ⌝', 'λ _. ⌜ n ≡ n ⌝')],
+    *[fine(change) for change in instead_of(
+        UNITS, EQUATION, 'λ s. ⌜ s ≡ sixteenths (n + 0) ⌝', 'λ r. ⌜ r .0 ≡ n ⌝', 'λ r. ⌜ (r ≡ sixteenths n) × (n ≡ n) ⌝',
+        'λ r. ⌜ n ≡ n ⌝ } ensures { λ r. ⌜ r ≡ sixteenths n ⌝')],
+    fault('units::Sixteenths::of', Change(UNITS, EQUATION, 'λ r. ⌜ r .0 ≡ n ⌝'), TWO_FIELDS),
+    fine(Change(UNITS, EQUATION, 'λ r. ⌜ (r .0 ≡ n) × (r .1 ≡ n) ⌝'), TWO_FIELDS),
+    fault('units::Sixteenths::of', Change(UNITS, EQUATION, 'λ r. ⌜ r .low ≡ n ⌝'), TWO_NAMES),
+    fine(Change(UNITS, EQUATION, 'λ r. ⌜ (r .low ≡ n) × (r .high ≡ n) ⌝'), TWO_NAMES),
+    fault('numbers::natural', Change(NUMBERS, 'natural(x: i64)', 'natural(x: i64, y: &mut u64)')),
+    *[fault('units::', change) for change in instead_of(PAGE, SENTENCE, '', 'Determined: nobody has looked for an equation.')],
+    # a law that is not there, or not where the page says
+    *[fault('picture::shape', change) for change in instead_of(
+        PAGE, '`one-shape` (proofs/Shapes.antt)', '`one-shape`', '`one-shape` (proofs/Lib.antt)', '`one-shape` (proofs/None.antt)',
+        '`one-form` (proofs/Shapes.antt)', 'by the same promise', '`pixels` (proofs/Shapes.antt)')],
+    *[fault('picture::shape', change) for change in instead_of(SHAPES_OF, 'pub one-shape :', 'one-shape :', 'pub one-form :')],
+    # a promise that is said to be another call's and is not
+    *[fault('gong::gong_filter', change) for change in instead_of(
+        GONG, FILTER_IS, 'FilterIs (now (levels .entry)) height width', 'SizesAre (now (levels .entry)) width height')],
+    fault('gong::gong_filter', Change(GONG, 'Rattle.filter.specs.Filter.', 'Rattle.gong.specs.Own.')),
+    fault('gong::gong_filter', Change(GONG, '{outcome, FilterIs}', '{outcome, Sized as FilterIs}')),
+    *[fault('gong::gong_filter', change) for change in instead_of(
+        PAGE, 'word for word that of `filter::filter`', 'the same', 'that of `filter::sizes`', 'that of `filter::nothing`')],
+    *[fault('gong::gong_filter', change) for change in instead_of(
+        PAGE, THE_SAME, '`one-tally`, since it is the same promise', '`one-outcome`, since it is so', 'since it is the same promise')],
+    # what no contract can determine
+    fault('filter::sizes', Change(PAGE, NO_LAW, NOT_SO)),
+    fine(Change(PAGE, NO_LAW, NOT_SO), listed=('filter::sizes',)),
+    fault('filter::sizes', Change(PAGE, NO_LAW, f'{NO_LAW}\n{NOT_SO}'), listed=('filter::sizes',)),
+    fault('filter::sizes', Change(PAGE, NO_LAW, '| not determined | |'), listed=('filter::sizes',)),
+    fault('filter::sizes', listed=('filter::sizes',)),
+    fault('filter::nothing', listed=('filter::nothing',)),
+]
+
+BOTH = '`side-to-1025`, `more-levels-taken`'
+WRONG_PROGRAMS = [
+    *[fault('picture', change) for change in instead_of(
+        PAGE, BOTH, '', '`side-to-1025`', '`side-to-1025`, `side-to-1025`', '`side-to-1025` (and `more-levels-taken`)',
+        '`side-to-1025`, `side-to-1026`', '`side-to-1025`, `written-over`')],
+    fine(Change(PAGE, BOTH, '`more-levels-taken` (as `written-over`, (or `nothing`)); `side-to-1025`')),
+    # a call more, where the crate has edits enough for three
+    fault('judge::next_one names 0', at_end(JUDGE, NEXT)),
+    fault('units', Change(PAGE, '`eighths-of-nothing`, `eighths-of-half`', '`picometres-of-nothing`, `eighths-of-half`')),
+    fault('filter::filter names written-over', gone('crates/filter/must-fail/written-over.edit')),
+    fault('filter/new-one', at_end('crates/filter/must-fail/new-one.edit', 'file: src/lib.rt\n')),
+    fault('calls/new-one', at_end('crates/calls/must-fail/new-one.edit', 'file: src/main.rt\n')),
+    fault('calls/text-past-the-block', Change(PAGE, '`text-past-the-block`', 'another'),
+          at_end(PAGE, '\n## Other programs\n\n`text-past-the-block`\n')),
+]
+
+TELLING_EDITS = [
+    fault('picture/side-to-1025', at_end(LOG, 'error: `Tie` has no `Need-shape-ensures`')),
+    fault('picture/side-to-1025', at_end(LOG, 'expected type `tie.Need-a`, but this has type `tie.Need-b`')),
+    fault('picture/side-to-1025', gone(LOG)),
+    fault('filter/new-one', at_end('crates/filter/must-fail/new-one.edit', 'file: src/lib.rt\n')),
+]
+
+ONE_TABLE = [
+    fault("'18'", Change(HEADER, '_INPUT = 18', '_INPUT = 19')),
+    fault('LONG_INPUT', Change('crates/numbers/src/table.rt', 'pub const LONG_INPUT: u8 = 18;', '')),
+    fault('LONG_INPUT', Change(HEADER, 'GONG_LONG_INPUT', 'GONG_LARGE_INPUT')),
+]
+
+DECLARED = [
+    fault('gong_length', Change(HEADER, 'uint8_t gong_length(int64_t factor', 'uint8_t gong_length(uint64_t factor')),
+    fault('gong_length', Change(GONG, 'gong_length(factor: i64, pixel: u64', 'gong_length(factor: i64, pixel: i64')),
+    fault('gong_more', at_end(HEADER, '\nuint8_t gong_more(uint64_t n);\n')),
+    fault('gong_more', at_end(GONG, '\n#[no_mangle]\npub extern "C" fn gong_more(n: u64) -> u8 {\n    0\n}\n')),
+]
+
+READ_ME = [
+    fault('gongspindle', Change(README, '    records 2\n', '    records 3\n')),
+    fault('calls', Change(README, '    answered 1\n', '    answered 2\n')),
+    fault('NoneType', Change(README, '| target/bin/calls\n', '| calls\n')),
+]
+
+CITED = 'use Rattle.filter.specs.Filter.{eighths}'
+CALLS = 'crates/calls/src/asked.rt'
+CONTRACT_ALONE = [
+    *[fault(VERDICTS, change) for change in instead_of(
+        VERDICTS, CITED, 'use Rattle.filter.proofs as p', 'use Rattle.filter as f', 'use Rattle.filter', 'use Rattle.filter.specs.Filter',
+        'use Rattle.filter.specs.Filter as F', 'use Rattle.filter.proofs.{Sorting}', 'use Rattle.filter.proofs.Sorting.{ascending}',
+        'use Rattle.filter. proofs.Sorting.{ascending}', 'use Rattle.filter\n    .proofs.Sorting.{ascending}',
+        'use Rattle.filter.specs.Filter.{x}', 'use Rattle.filter.proofs.Sorting.{x}',
+        'use Rattle.filter.specs.Filter.{eighths as e}', 'use Rattle.filter.specs.Filter.{Median.x}',
+        'use Rattle.filter.specs.Median.{pass}', 'use package.Rattle.filter.specs.Whiteboard.{x}')],
+    fine(Change(VERDICTS, CITED, f'{CITED[:-1]},\n    Sized}}\nuse Rattle.filter.proofs.Outcomes.{{Fits, when-fits}}')),
+    *[fault(JUDGE, change) for change in instead_of(
+        JUDGE, 'use numbers::table;', 'use filter as f;', 'use filter;', 'use filter::passes;', 'use filter::sizes as s;',
+        'use filter::{sizes};', 'use ::filter as f;', 'extern crate filter as f;', 'use filter::*;',
+        'ghost use Rattle.filter.specs.Filter.{Sized};')],
+    *[fault(JUDGE, change) for change in instead_of(
+        JUDGE, 'filter::sizes(levels', 'filter::rows::one_row(levels', 'filter :: rows(levels', 'filter::filter::sizes(levels')],
+    fine(Change(JUDGE, 'use numbers::table;', '// filter::passes has more\nuse filter::sizes;\nuse filtered::more;')),
+    fault(GONG, Change(GONG, 'ghost use Rattle.filter.specs.Filter.', 'ghost use Rattle.filter.specs.Median.')),
+    fault(CALLS, Change(CALLS, 'filter::filter(', 'filter::passes(')),
+    # a crate that is new, above the filter and not above it
+    fault('crates/more', at_end('crates.txt', 'more: filter\n'), at_end('crates/more/src/lib.rt', 'use filter as f;\n')),
+    fine(at_end('crates.txt', 'more: numbers\n'), at_end('crates/more/src/lib.rt', 'use filter as f;\n')),
+]
+
+PLANTED = {
+    'layout': [fault(PICTURE, Change(PICTURE, '    if width < 1 {', '  if width<1 {')),
+               fault(VERDICTS, Change(VERDICTS, CITED, f'{CITED}   '))],
+    'no_requires': NO_REQUIRES,
+    'has_ensures': HAS_ENSURES,
+    'promised': PROMISED,
+    'determined': DETERMINED,
+    'wrong_programs': WRONG_PROGRAMS,
+    'telling_edits': TELLING_EDITS,
+    'one_table': ONE_TABLE,
+    'declared': DECLARED,
+    'readme': READ_ME,
+    'contract_alone': CONTRACT_ALONE,
+    'small_rooms': [fault(PICTURE, at_end(PICTURE, '//\n' * 400)), fault(VERDICTS, at_end(VERDICTS, '--\n' * 400))],
+}
