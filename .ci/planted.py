@@ -159,8 +159,8 @@ WRONG_PROGRAMS = [
     fault('filter::filter names written-over', gone('crates/filter/must-fail/written-over.edit')),
     fault('filter/new-one', at_end('crates/filter/must-fail/new-one.edit', 'file: src/lib.rt\n')),
     fault('calls/new-one', at_end('crates/calls/must-fail/new-one.edit', 'file: src/main.rt\n')),
-    fault('calls/text-past-the-block', Change(PAGE, '`text-past-the-block`', 'another'),
-          at_end(PAGE, '\n## Other programs\n\n`text-past-the-block`\n')),
+    fault('calls/longer-than-the-space', Change(PAGE, '`longer-than-the-space`', 'another'),
+          at_end(PAGE, '\n## Other programs\n\n`longer-than-the-space`\n')),
 ]
 
 TELLING_EDITS = [
