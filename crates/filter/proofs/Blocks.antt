@@ -1,49 +1,59 @@
--- A block: the columns that the code takes are those that lie next to a pixel, and once they are put in, its median is read off.
+-- A block: the columns that the code gathers are those that lie next to a pixel, and the median of what was gathered is the block's.
 -- Assumes nothing.
 use mathlib.Core.Path.{_≡_, refl, sym, ap, _∙_}
 use mathlib.Core.List.{List, [], _∷_, _++_, append-nil}
-use Prim.Native.Nat.{ℕ, zero, suc, _+_, _-_, _*_, _/_, _≤_, _<_, zero-le, min}
+use Prim.Native.Nat.{ℕ, zero, suc, _+_, _-_, _*_, _≤_, _<_, zero-le, min}
 use native.Mathlib.Nat.{zero-add, zero-min, min-zero, suc-min-suc}
 use native.Mathlib.Omega.{arith}
 use lib.ListN.{length, getD, take, drop, length-append}
-use lib.Seq.{slice, length-slice, take-nil, drop-nil}
+use lib.Seq.{slice, length-slice, length-take-le, take-at, take-nil, drop-nil}
 use Rattle.numbers.specs.Lists.{joined, AtMost}
-use Rattle.filter.specs.Median.{near, insertAll, sorted, twiceMedian, block, rowOf}
-use Rattle.filter.specs.Asked.{Row}
 use Rattle.numbers.proofs.Lists.{length-joined, joined-at, joined-same, most-append, most-slice}
-use Rattle.filter.proofs.Ranges.{most-insertAll}
-use Rattle.filter.proofs.Inserting.{Gathered, insertAll-append}
+use Rattle.numbers.proofs.Writing.{Overwritten}
+use Rattle.filter.specs.Median.{near, twiceMedian, block, rowOf}
+use Rattle.filter.specs.Asked.{Row}
+use Rattle.filter.proofs.Lists.{listed-part}
 
--- the first n of t are the levels of l, sorted
+-- the first n of t, and behind them c columns of a row from column f on
+abbrev pub Gathered : List ℕ → List ℕ → List ℕ → ℕ → ℕ → ℕ → Type 0
+Gathered row t t' n f c = take (n + c) t' ≡ take n t ++ slice f (f + c) row
+
+-- once the columns are stored, one after the other
+pub gathered : (row t t' : List ℕ) (n f c : ℕ) → n ≤ length t → f + c ≤ length row → Overwritten t n (λ i. getD row (f + i) 0) t' c
+    → Gathered row t t' n f c
+gathered row t t' n f c room inside stored =
+    let columns = slice f (f + c) row in
+    let long : length (take n t ++ columns) ≡ n + c =
+    simp (length-append, length-slice f (f + c) row inside, length-take-le n t room) (omega arith) in
+    rw (stored .is, listed-part f c row inside) (take-at (take n t ++ columns) _ (n + c) long)
+
+-- the first n of t are the levels of l
 pub record Holds (n : ℕ) (t l : List ℕ) : Type 0 where
   pub long : length l ≡ n
-  pub order : take n t ≡ sorted l
+  pub levels : take n t ≡ l
   pub small : AtMost 1020 l
 
 -- with some columns of one more row
-pub holds-more : (n f c m : ℕ) (row t t' l : List ℕ) → Holds n t l → Row m row → f + c ≤ m → Gathered row t t' n f c → Holds (n + c) t' (l ++ slice f (f + c) row)
-unfolding sorted
+pub holds-more : (n f c m : ℕ) (row t t' l : List ℕ) → Holds n t l → Row m row → f + c ≤ m → Gathered row t t' n f c
+    → Holds (n + c) t' (l ++ slice f (f + c) row)
 holds-more n f c m row t t' l p r h g =
     let long = r .0 in
     record {
       long = simp (length-append, length-slice f (f + c) row (omega arith)) (omega (arith, p .long));
-      order = g ∙ rw (p .order) (sym (insertAll-append [] l (slice f (f + c) row)));
+      levels = g ∙ rw (p .levels);
       small = most-append 1020 l (slice f (f + c) row) (p .small) (most-slice 1020 f (f + c) row (r .1));
     }
 
 -- which may be the first
 pub holds-first : (f c m : ℕ) (row t' : List ℕ) → Row m row → f + c ≤ m → Gathered row [] t' 0 f c → Holds c t' (slice f (f + c) row)
-unfolding sorted insertAll
 holds-first f c m row t' r h g =
-    rw (zero-add c) at (holds-more 0 f c m row [] t' [] (record { long = refl; order = refl; small = λ k. zero-le }) r h g)
+    rw (zero-add c) at (holds-more 0 f c m row [] t' [] (record { long = refl; levels = refl; small = λ k. zero-le }) r h g)
 
 pub held-small : (n : ℕ) (t l : List ℕ) → Holds n t l → AtMost 1020 (take n t)
-unfolding sorted
-held-small n t l p = rw (p .order) (most-insertAll 1020 [] l (λ k. zero-le) (p .small))
+held-small n t l p = rw (p .levels) (p .small)
 
-pub held-median : (n r : ℕ) (t l : List ℕ) → Holds n t l → r ≡ getD (take n t) ((n - 1) / 2) 0 + getD (take n t) (n / 2) 0 → r ≡ twiceMedian l
-unfolding twiceMedian
-held-median n r t l p e = e ∙ rw (p .order, ← (p .long))
+pub held-median : (n r : ℕ) (t l : List ℕ) → Holds n t l → r ≡ twiceMedian (take n t) → r ≡ twiceMedian l
+held-median n r t l p e = e ∙ rw (p .levels)
 
 take-min : (n : ℕ) (l : List ℕ) → take (min n (length l)) l ≡ take n l
 take-min zero l = rw zero-min

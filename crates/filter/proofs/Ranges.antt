@@ -4,38 +4,34 @@ use Prim.Native.Nat.{ℕ, zero, suc, _+_, _-_, _*_, _/_, _≤_, zero-le, max}
 use mathlib.Core.Path.{_≡_}
 use native.Mathlib.Nat.{le-trans}
 use native.Mathlib.Omega.{arith}
-use lib.ListN.{length}
-use lib.Seq.{slice}
+use lib.ListN.{length, take}
+use lib.Seq.{slice, take-take}
 use Rattle.numbers.specs.Lists.{AtMost}
-use Rattle.numbers.proofs.Lists.{most-cons, most-append, most-slice, most-joined}
+use Rattle.numbers.proofs.Lists.{most-cons, most-append, most-take, most-slice, most-joined}
 use Rattle.filter.specs.Median.{near, insert, insertAll, sorted, twiceMedian, block, rowOf, passRow, pass}
 use Rattle.picture.specs.Picture.{Side}
 use Rattle.filter.specs.Filter.{halves, quarters, eighths}
 use Rattle.filter.specs.Asked.{Picture}
 
 -- a level put into its place
-pub most-insert : (b v : ℕ) (l : List ℕ) → v ≤ b → AtMost b l → AtMost b (insert v l)
+most-insert : (b v : ℕ) (l : List ℕ) → v ≤ b → AtMost b l → AtMost b (insert v l)
 unfolding insert
 most-insert b v [] h p k = most-cons b v [] h p k
 most-insert b v (x ∷ l) h p zero = omega (arith, p zero)
 most-insert b v (x ∷ l) h p (suc k) = most-insert b (max v x) l (omega (arith, p zero)) (λ i. p (suc i)) k
 
--- what was put in, and what it was put into, is no larger than the largest there
-pub insert-most : (b v : ℕ) (l : List ℕ) → AtMost b (insert v l) → (v ≤ b) × AtMost b l
-unfolding insert
-insert-most b v [] p = (p zero, λ k. zero-le)
-insert-most b v (x ∷ l) p =
-    let q = insert-most b (max v x) l (λ k. p (suc k)) in
-    let both = q .0 in
-    (omega arith, most-cons b x l (omega arith) (q .1))
-
 -- levels put into levels: the bound holds for both, so for all
-pub most-insertAll : (b : ℕ) (d l : List ℕ) → AtMost b d → AtMost b l → AtMost b (insertAll d l)
+most-insertAll : (b : ℕ) (d l : List ℕ) → AtMost b d → AtMost b l → AtMost b (insertAll d l)
 unfolding insertAll
 most-insertAll b d [] p q = p
 most-insertAll b d (x ∷ l) p q = most-insertAll b (insert x d) l (most-insert b x d (q zero) p) (λ i. q (suc i))
 
-most-median : (b : ℕ) (l : List ℕ) → AtMost b l → twiceMedian l ≤ b + b
+-- fewer levels
+pub most-fewer : (b k n : ℕ) (t : List ℕ) → k ≤ n → AtMost b (take n t) → AtMost b (take k t)
+most-fewer b k n t h p = rw (← take-take k n t h) (most-take b k (take n t) p)
+
+-- twice the median
+pub most-median : (b : ℕ) (l : List ℕ) → AtMost b l → twiceMedian l ≤ b + b
 unfolding twiceMedian sorted
 most-median b l p =
     let s = most-insertAll b [] l (λ k. zero-le) p in

@@ -1,4 +1,5 @@
 pub mod Median
 pub mod Filter
 pub mod Whiteboard
+pub mod Counting
 pub mod Asked

@@ -48,20 +48,11 @@ most-append b [] m p q k = q k
 most-append b (x ∷ l) m p q zero = p zero
 most-append b (x ∷ l) m p q (suc k) = most-append b l m (λ i. p (suc i)) q k
 
--- and of the second of them
-pub append-most : (b : ℕ) (l m : List ℕ) → AtMost b (l ++ m) → AtMost b m
-append-most b [] m p k = p k
-append-most b (x ∷ l) m p k = append-most b l m (λ i. p (suc i)) k
-
 -- of n that are all x
 pub most-equal : (b n x : ℕ) → x ≤ b → AtMost b (replicate n x)
 most-equal b zero x p k = zero-le
 most-equal b (suc n) x p zero = p
 most-equal b (suc n) x p (suc k) = most-equal b n x p k
-
--- of zeros
-pub most-zeros : (b n : ℕ) → AtMost b (replicate n 0)
-most-zeros b n = most-equal b n 0 zero-le
 
 -- of a part of a list
 pub most-take : (b n : ℕ) (l : List ℕ) → AtMost b l → AtMost b (take n l)

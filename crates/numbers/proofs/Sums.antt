@@ -1,6 +1,6 @@
 -- Laws of sums: one number more, two sums in one, a part more, bounds, and that the square of a sum is at most n times the sum of the
 -- squares. Assumes nothing.
-use mathlib.Core.Path.{_≡_, refl, sym}
+use mathlib.Core.Path.{_≡_, refl, sym, ap, _∙_}
 use mathlib.Core.Logic.{⊎-elim}
 use Prim.Native.Nat.{ℕ, zero, suc, _+_, _-_, _*_, _<_, _≤_, zero-le}
 use native.Mathlib.Nat.{add-mul, mul-add, mul-comm, suc-mul, mul-zero, zero-mul}
@@ -16,6 +16,12 @@ sum-none f = refl
 pub sum-more : (n : ℕ) (f : ℕ → ℕ) → sum (n + 1) f ≡ sum n f + f n
 unfolding sum
 sum-more n f = rw add-one
+
+-- a sum from its first number on
+pub sum-first : (n : ℕ) (f : ℕ → ℕ) → sum (suc n) f ≡ f 0 + sum n (λ i. f (suc i))
+unfolding sum
+sum-first zero f = omega arith
+sum-first (suc n) f = omega (arith, sum-first n f)
 
 -- n numbers that are at most b
 pub sum-most : (b n : ℕ) (f : ℕ → ℕ) → ((i : ℕ) → f i ≤ b) → sum n f ≤ n * b
@@ -47,9 +53,13 @@ unfolding sum
 sum-parts a zero f = let e : a + 0 ≡ a = omega arith in let z : sum a f + 0 ≡ sum a f = omega arith in rw (e, z)
 sum-parts a (suc n) f = let e : a + suc n ≡ suc (a + n) = omega arith in rw e (omega (arith, sum-parts a n f))
 
+-- the same of a sum that is cut at a place
+pub sum-cut : (f : ℕ → ℕ) (a n : ℕ) → a ≤ n → sum n f ≡ sum a f + sum (n - a) (λ i. f (a + i))
+sum-cut f a n inside = let e : n ≡ a + (n - a) = omega arith in ap (λ (m : ℕ). sum m f) e ∙ sum-parts a (n - a) f
+
 -- a part of a sum is at most all of it
 pub sum-part : (f : ℕ → ℕ) {k n : ℕ} → k ≤ n → sum k f ≤ sum n f
-sum-part f {k} {n} in-it = let e : n ≡ k + (n - k) = omega arith in rw e (omega (arith, sum-parts k (n - k) f))
+sum-part f {k} {n} in-it = omega (arith, sum-cut f k n in-it)
 
 -- and so is each of its numbers
 pub sum-term : (f : ℕ → ℕ) {i n : ℕ} → i < n → f i ≤ sum n f

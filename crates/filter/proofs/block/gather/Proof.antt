@@ -1,44 +1,56 @@
--- `filter::block::gather` meets its contract: after k turns k of the row's columns are put in (`Gathered`). Assumes nothing.
+-- `filter::block::gather` meets its contract: after k turns k of the row's columns are stored (`Overwritten`). Assumes nothing.
+use mathlib.Core.Path.{_≡_, refl}
 use Prim.Native.Nat.{_+_, _-_, _≤_}
-use mathlib.Core.Path.{_≡_, refl, _∙_}
-use denote.Ref.{now}
 use native.Mathlib.Omega.{arith}
-use borrow.Author.Needs.{needs}
-use lib.ListN.{length}
-use Rattle.filter.proofs.Inserting.{Gathered, gathered-none, gathered-more, gathered-small}
+use denote.Ref.{now}
+use lib.ListN.{getD}
+use Rattle.numbers.proofs.Writing.{Overwritten, overwritten-none, overwritten-more}
+use Rattle.filter.proofs.Blocks.{gathered}
 use Rattle.filter.proofs.block.gather.Statement.{statement}
 use Rattle.filter.proofs.block.gather.Tie as tie
 
 abbrev Inv-loop : tie.InvT-loop
-Inv-loop t₀ n row first count k₀ t k = (k ≤ count) × (length t ≡ length t₀) × Gathered row t₀ t n first k
+Inv-loop t₀ n row first count k₀ t k = (k ≤ count) × Overwritten t₀ n (λ i. getD row (first + i) 0) t k
 
 abbrev μ-loop : tie.MeasureT-loop
 μ-loop t₀ n row first count k₀ t k = count - k
 
 loop-holds : tie.Need-loop-holds Inv-loop μ-loop
-loop-holds c = let a = c .before .before .args in (search needs, refl, gathered-none (now (a .row)) (now (a .t)) (a .n) (a .first))
+loop-holds c = (omega arith, overwritten-none (now (c .args .t)) (c .args .n) _)
 
-add-put : tie.Need-add-put Inv-loop μ-loop
-add-put c = omega arith
+loop-again : tie.Need-loop-again Inv-loop μ-loop
+loop-again c =
+    let at-loop = c .before .before in
+    let turn = at-loop .loop in
+    let given = at-loop .before .args in
+    (omega arith, overwritten-more (now (given .t)) (given .n) _ (turn .t) (turn .k) _ (omega arith) refl (turn .inv .1))
 
-add-put-2 : tie.Need-add-put-2 Inv-loop μ-loop
-add-put-2 c = omega arith
+returns : tie.Need-returns Inv-loop μ-loop
+returns c =
+    let at-loop = c .before in
+    let turn = at-loop .loop in
+    let given = at-loop .before .args in
+    let all : turn .k ≡ given .count = omega arith in
+    let stored = rw all at (turn .inv .1) in
+    gathered (now (given .row)) (now (given .t)) (turn .t) (given .n) (given .first) (given .count) (omega arith) (omega arith) stored
 
-mul-put : tie.Need-mul-put Inv-loop μ-loop
-mul-put c = omega arith
+add-t : tie.Need-add-t Inv-loop μ-loop
+add-t c = omega arith
 
-shared-slice-read-put : tie.Need-shared-slice-read-put Inv-loop μ-loop
-shared-slice-read-put c = omega arith
+mul-t : tie.Need-mul-t Inv-loop μ-loop
+mul-t c = omega arith
 
-put-requires : tie.Need-put-requires Inv-loop μ-loop
-put-requires c κs =
-    let l = c .before .before .before .loop in
-    let s = c .before .before .before .before .before .before in
-    let a = s .args in (
-      omega arith,
-      gathered-small 1020 (now (a .row)) (now (a .t)) (l .t) (a .n) (a .first) (l .k) (s .pre .1 .0) (s .pre .1 .1) (l .inv .2),
-      s .pre .1 .1 (a .first + l .k),
-    )
+shared-slice-read-t : tie.Need-shared-slice-read-t Inv-loop μ-loop
+shared-slice-read-t c = omega arith
+
+add-t-2 : tie.Need-add-t-2 Inv-loop μ-loop
+add-t-2 c = omega arith
+
+mul-t-2 : tie.Need-mul-t-2 Inv-loop μ-loop
+mul-t-2 c = omega arith
+
+slice-write-t : tie.Need-slice-write-t Inv-loop μ-loop
+slice-write-t c = omega arith
 
 add-k : tie.Need-add-k Inv-loop μ-loop
 add-k c = omega arith
@@ -46,21 +58,8 @@ add-k c = omega arith
 loop-less : tie.Need-loop-less Inv-loop μ-loop
 loop-less c = omega arith
 
-loop-again : tie.Need-loop-again Inv-loop μ-loop
-loop-again c =
-    let a = c .before .before .before .before .before .before .before .before .before .args in
-    let l = c .before .before .before .before .before .before .loop in
-    (omega arith, c .before .before .put .kept .0 ∙ l .inv .1, gathered-more (now (a .row)) (now (a .t)) (l .t) _ (a .n) (a .first) (l .k) (omega arith) (l .inv .2) (c .before .before .put .ensures))
-
 same-length : tie.Need-same-length Inv-loop μ-loop
 same-length c = omega arith
-
-returns : tie.Need-returns Inv-loop μ-loop
-returns c =
-    let l = c .before .loop in
-    let a = c .before .before .before .before .args in
-    let end : l .k ≡ a .count = omega arith in
-    rw end at (l .inv .2)
 
 pub gather-spec : {M : Type 1} → statement M
 gather-spec =
@@ -69,11 +68,12 @@ gather-spec =
     Inv-loop
     μ-loop
     loop-holds
-    add-put
-    add-put-2
-    mul-put
-    shared-slice-read-put
-    put-requires
+    add-t
+    mul-t
+    shared-slice-read-t
+    add-t-2
+    mul-t-2
+    slice-write-t
     add-k
     loop-less
     loop-again
