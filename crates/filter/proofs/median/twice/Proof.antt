@@ -8,7 +8,7 @@ use borrow.Author.Needs.{needs}
 use denote.Ref.{now}
 use lib.ListN.{take}
 use Rattle.filter.specs.Median.{twiceMedian}
-use Rattle.filter.proofs.Counts.{at-least-one, at-most-nine}
+use Rattle.filter.proofs.Counts.{one-to-nine}
 use Rattle.filter.proofs.Ranges.{most-median}
 use Rattle.filter.proofs.Search.{Middles, middles-first, middles-more, middles-last}
 use Rattle.filter.proofs.median.twice.Statement.{statement}
@@ -23,7 +23,7 @@ abbrev μ-loop : tie.MeasureT-loop
 loop-holds : tie.Need-loop-holds Inv-loop μ-loop
 loop-holds c =
     let start = c .before .before .before .before in
-    let some = at-least-one (start .pre .0) in
+    let some = one-to-nine (start .pre .0) .0 in
     (omega arith, some, middles-first (now (start .args .t)) (start .args .n) some (start .pre .1))
 
 -- at the loop's test
@@ -42,10 +42,10 @@ module _ (at-loop : tie.At-loop Inv-loop μ-loop) where
   n = start .args .n
 
   some : 1 ≤ n
-  some = at-least-one (start .pre .0)
+  some = one-to-nine (start .pre .0) .0
 
   few : n ≤ 9
-  few = at-most-nine (start .pre .0)
+  few = one-to-nine (start .pre .0) .1
 
 others-requires : tie.Need-others-requires Inv-loop μ-loop
 others-requires c κs =
@@ -81,10 +81,10 @@ middle-ranks-requires : tie.Need-middle-ranks-requires Inv-loop μ-loop
 middle-ranks-requires c κs = search needs
 
 shared-slice-read-lower : tie.Need-shared-slice-read-lower Inv-loop μ-loop
-shared-slice-read-lower c = omega (arith, at-least-one (c .before .before .before .pre .0))
+shared-slice-read-lower c = omega (arith, one-to-nine (c .before .before .before .pre .0) .0)
 
 shared-slice-read-upper : tie.Need-shared-slice-read-upper Inv-loop μ-loop
-shared-slice-read-upper c = omega (arith, at-least-one (c .before .before .before .before .pre .0))
+shared-slice-read-upper c = omega (arith, one-to-nine (c .before .before .before .before .pre .0) .0)
 
 mul-v : tie.Need-mul-v Inv-loop μ-loop
 mul-v c = omega (arith, few (c .before))
