@@ -151,12 +151,14 @@ BOTH = '`side-to-1025`, `more-levels-taken`'
 WRONG_PROGRAMS = [
     *[fault('picture', change) for change in instead_of(
         PAGE, BOTH, '', '`side-to-1025`', '`side-to-1025`, `side-to-1025`', '`side-to-1025` (and `more-levels-taken`)',
-        '`side-to-1025`, `side-to-1026`', '`side-to-1025`, `written-over`')],
-    fine(Change(PAGE, BOTH, '`more-levels-taken` (as `written-over`, (or `nothing`)); `side-to-1025`')),
+        '`side-to-1025`, `side-to-1026`', '`side-to-1025`, `zero-padding`')],
+    fine(Change(PAGE, BOTH, '`more-levels-taken` (as `zero-padding`, (or `nothing`)); `side-to-1025`')),
     # a call more, where the crate has edits enough for three
     fault('judge::next_one names 0', at_end(JUDGE, NEXT)),
     fault('units', Change(PAGE, '`eighths-of-nothing`, `eighths-of-half`', '`picometres-of-nothing`, `eighths-of-half`')),
-    fault('filter::filter names written-over', gone('crates/filter/must-fail/written-over.edit')),
+    fault('filter::filter names zero-padding', gone('crates/filter/must-fail/zero-padding.edit')),
+    fault('gong::gong_scan_start names 0', Change(PAGE, '| `scan-sides-exchanged` |', '| |'),
+          gone('crates/gong/must-fail/scan-sides-exchanged.edit')),
     fault('filter/new-one', at_end('crates/filter/must-fail/new-one.edit', 'file: src/lib.rt\n')),
     fault('calls/new-one', at_end('crates/calls/must-fail/new-one.edit', 'file: src/main.rt\n')),
     fault('calls/longer-than-the-space', Change(PAGE, '`longer-than-the-space`', 'another'),
@@ -191,6 +193,7 @@ READ_ME = [
 
 CITED = 'use Rattle.filter.specs.Filter.{eighths}'
 CALLS = 'crates/calls/src/asked.rt'
+TWOS, BLOCKS = 'crates/scan/proofs/Twos.antt', 'use Rattle.filter.proofs.Blocks.{length-row}'
 CONTRACT_ALONE = [
     *[fault(VERDICTS, change) for change in instead_of(
         VERDICTS, CITED, 'use Rattle.filter.proofs as p', 'use Rattle.filter as f', 'use Rattle.filter', 'use Rattle.filter.specs.Filter',
@@ -209,6 +212,12 @@ CONTRACT_ALONE = [
     fine(Change(JUDGE, 'use numbers::table;', '// filter::passes has more\nuse filter::sizes;\nuse filtered::more;')),
     fault(GONG, Change(GONG, 'ghost use Rattle.filter.specs.Filter.', 'ghost use Rattle.filter.specs.Median.')),
     fault(CALLS, Change(CALLS, 'filter::filter(', 'filter::passes(')),
+    # a crate that goes by rows may say what a row is, and no more
+    *[fault(TWOS, change) for change in instead_of(
+        TWOS, BLOCKS, 'use Rattle.filter.proofs.Blocks.{length-row, lower-row}', 'use Rattle.filter.proofs.Blocks.{lower-row}',
+        'use Rattle.filter.proofs.Sorting.{ascending}', 'use Rattle.filter.specs.Median.{rowOf, near}', 'use Rattle.filter.proofs.Blocks')],
+    fine(Change(TWOS, BLOCKS, f'{BLOCKS}\nuse Rattle.filter.specs.Filter.{{eighths}}\nuse Rattle.filter.specs.Median.{{pass, rowOf}}')),
+    fault(VERDICTS, Change(VERDICTS, CITED, BLOCKS)),
     # a crate that is new, above the filter and not above it
     fault('crates/more', at_end('crates.txt', 'more: filter\n'), at_end('crates/more/src/lib.rt', 'use filter as f;\n')),
     fine(at_end('crates.txt', 'more: numbers\n'), at_end('crates/more/src/lib.rt', 'use filter as f;\n')),

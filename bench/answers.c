@@ -7,15 +7,11 @@
 #include "inputs.h"
 #include "library.h"
 
-enum {
-    GUARDS = 8, /* elements behind a buffer that no call may touch */
-    SHOWN = 3   /* differences of one call that are told */
-};
+enum { SHOWN = 3 }; /* differences of one call that are told */
 
 static int answers, differences; /* of the call that is being compared */
 
-/* Counts an answer; true where it is a difference that is to be told. */
-static int differs(int same)
+int differs(int same)
 {
     answers++;
     if (same) return 0;
@@ -70,8 +66,7 @@ static void compare_picture(int measured, const uint8_t *levels, size_t width, s
     compare_lent(measured, &(struct lent){levels, pixels, width, height, pixels + spare, pixels + spare / 2});
 }
 
-/* Levels of one of four kinds: random; few, so that many are equal; two; and a slope. */
-static const uint8_t *some_levels(size_t width, size_t height, uint32_t kind)
+const uint8_t *some_levels(size_t width, size_t height, uint32_t kind)
 {
     static uint8_t levels[SIDE * 64];
 
@@ -272,9 +267,10 @@ int compare_answers(void)
     static const struct {
         const char *call;
         void (*compare)(void);
-    } calls[] = {{"filter", compare_filter},       {"measure", compare_measure}, {"judge", compare_judge},
-                 {"count", compare_count},         {"two_means", compare_two_means}, {"sample", compare_sample},
-                 {"length", compare_length}};
+    } calls[] = {{"filter", compare_filter},         {"measure", compare_measure},       {"judge", compare_judge},
+                 {"count", compare_count},           {"two_means", compare_two_means},   {"sample", compare_sample},
+                 {"length", compare_length},         {"scan_start", compare_scan_start}, {"scan_rows", compare_scan_rows},
+                 {"scan_end", compare_scan_end}};
     int wrong = 0;
 
     for (size_t k = 0; k < sizeof calls / sizeof *calls; k++) {

@@ -15,8 +15,8 @@
 #include "inputs.h"
 #include "library.h"
 
-const struct library gong = {"gong",     gong_filter,    gong_measure, gong_judge,
-                             gong_count, gong_two_means, gong_sample,  gong_length};
+const struct library gong = {"gong",      gong_filter, gong_measure,    gong_judge,     gong_count,   gong_two_means,
+                             gong_sample, gong_length, gong_scan_start, gong_scan_rows, gong_scan_end};
 
 enum {
     PASSES = 3,
@@ -44,6 +44,32 @@ static void filter_512(const struct library *library) { filter_squares(library, 
 static void filter_256(const struct library *library) { filter_squares(library, random_picture, 256); }
 static void filter_128(const struct library *library) { filter_squares(library, random_picture, 128); }
 static void filter_64(const struct library *library) { filter_squares(library, random_picture, 64); }
+
+/* The same pictures row by row, some rows a call, and the start and the end with them. The rows that come out are put where
+ * the whole filter puts them. */
+static void scan_squares(const struct library *library, size_t side, size_t a_call)
+{
+    static uint16_t held[GONG_SCAN];
+    size_t pixels = side * side, brought = a_call * side;
+    uint64_t rows;
+
+    for (size_t from = 0; from < FULL; from += pixels) {
+        const uint8_t *levels = random_picture + from;
+        size_t out = 0;
+
+        library->scan_start(held, GONG_SCAN, side, side);
+        for (size_t k = 0; k < pixels; k += brought) {
+            library->scan_rows(held, GONG_SCAN, levels + k, brought, output + out, pixels - out, &rows);
+            out += rows * side;
+        }
+        library->scan_end(held, GONG_SCAN, output + out, pixels - out, &rows);
+    }
+}
+
+static void scan_1024_by_1(const struct library *library) { scan_squares(library, SIDE, 1); }
+static void scan_1024_by_8(const struct library *library) { scan_squares(library, SIDE, 8); }
+static void scan_64_by_1(const struct library *library) { scan_squares(library, 64, 1); }
+static void scan_64_by_8(const struct library *library) { scan_squares(library, 64, 8); }
 
 static void measure_discs(const struct library *library)
 {
@@ -105,6 +131,10 @@ static const struct row {
     {"filter", "256", "pixel and pass", filter_256, FULL * PASSES},
     {"filter", "128", "pixel and pass", filter_128, FULL * PASSES},
     {"filter", "64", "pixel and pass", filter_64, FULL * PASSES},
+    {"scan", "1024-by-1", "pixel and pass", scan_1024_by_1, FULL * PASSES},
+    {"scan", "1024-by-8", "pixel and pass", scan_1024_by_8, FULL * PASSES},
+    {"scan", "64-by-1", "pixel and pass", scan_64_by_1, FULL * PASSES},
+    {"scan", "64-by-8", "pixel and pass", scan_64_by_8, FULL * PASSES},
     {"measure", "discs", "pixel", measure_discs, FULL},
     {"judge", "1,024-pictures", "call", judge_many, AGAIN * MANY},
     {"count", "discs", "value", count_discs, FULL},

@@ -1,15 +1,22 @@
 /* Document 01's rules in plain C, each as one writes it down, with no trick. They serve twice: the
- * library gong is held to them before anything is timed, and then they are the rows "plain C". */
+ * library gong is held to them before anything is timed, and then they are the rows "plain C". The scan, document 02's P1,
+ * serves once: it is not timed. */
 #include <string.h>
 
 #include "library.h"
 
 typedef unsigned __int128 wide; /* "Comparing the ratio after squaring in 64 bits, where it wraps" */
 
-/* "1 | w or h outside 1..1,024", "2 | levels lent != w h" */
+/* "1 | w or h outside 1..1,024" */
+static int good_sides(size_t width, size_t height)
+{
+    return width >= 1 && width <= 1024 && height >= 1 && height <= 1024;
+}
+
+/* and "2 | levels lent != w h" */
 static uint8_t misshapen(size_t levels_len, size_t width, size_t height)
 {
-    if (width < 1 || width > 1024 || height < 1 || height > 1024) return 1;
+    if (!good_sides(width, height)) return 1;
     return levels_len == width * height ? 0 : 2;
 }
 
@@ -232,4 +239,77 @@ static uint8_t length(int64_t factor, uint64_t pixel, uint64_t *picometres)
     return 0;
 }
 
-const struct library plain = {"plain", filter, measure, judge, count, two_means, sample, length};
+/* ---- document 02, P1: rows while the beam runs */
+
+/* The first numbers of the memory that a scan is lent: all zeros is before a good start. */
+enum { WIDTH, HEIGHT, CAME, ENDED };
+
+/* "Only the rows still needed may be held, never the picture." Here the picture is held all the same, in one place, and is
+ * filtered again with each call: that is plain, but slow, and one scan runs at a time. */
+static uint8_t scanned[1024 * 1024];
+
+/* "A third-pass row comes out with the call that brings the third row below it": how many are out when so many came. */
+static size_t settled(size_t came) { return came > 3 ? came - 3 : 0; }
+
+/* "1, also before a good start" */
+static int started(const uint16_t *held, size_t held_len)
+{
+    return held_len >= GONG_SCAN && good_sides(held[WIDTH], held[HEIGHT]);
+}
+
+static uint8_t scan_start(uint16_t *held, size_t held_len, size_t width, size_t height)
+{
+    if (held_len < GONG_SCAN || !good_sides(width, height)) return 1;
+    held[WIDTH] = (uint16_t)width;
+    held[HEIGHT] = (uint16_t)height;
+    held[CAME] = held[ENDED] = 0;
+    return 0;
+}
+
+/* Third-pass rows, from one to before another. The rows that came are filtered as if they were all: what is still to come
+ * lies four rows or more below these, and three passes look three rows down. */
+static void give(const uint16_t *held, size_t from, size_t to, uint16_t *output)
+{
+    static uint16_t filtered[1024 * 1024], work[1024 * 1024];
+    size_t width = held[WIDTH], pixels = width * held[CAME];
+
+    filter(scanned, pixels, width, held[CAME], filtered, pixels, work, pixels);
+    for (size_t k = from * width; k < to * width; k++) *output++ = filtered[k];
+}
+
+static uint8_t scan_rows(uint16_t *held, size_t held_len, const uint8_t *levels, size_t levels_len, uint16_t *output,
+                         size_t output_len, uint64_t *rows)
+{
+    *rows = 0;
+    if (!started(held, held_len)) return 1;
+
+    size_t width = held[WIDTH], before = held[CAME], came = before + levels_len / width;
+
+    if (levels_len % width) return 20;
+    if (came > held[HEIGHT]) return 21;
+    if (output_len < (settled(came) - settled(before)) * width) return 3;
+    if (levels_len == 0) return 0; /* "A call with no rows is allowed and gives none." */
+    memcpy(scanned + before * width, levels, levels_len);
+    held[CAME] = (uint16_t)came;
+    give(held, settled(before), settled(came), output);
+    *rows = settled(came) - settled(before);
+    return 0;
+}
+
+static uint8_t scan_end(uint16_t *held, size_t held_len, uint16_t *output, size_t output_len, uint64_t *rows)
+{
+    *rows = 0;
+    if (!started(held, held_len)) return 1;
+
+    size_t width = held[WIDTH], height = held[HEIGHT];
+
+    if (held[CAME] < height || held[ENDED]) return 22;
+    if (output_len < (height - settled(height)) * width) return 3;
+    held[ENDED] = 1;
+    give(held, settled(height), height, output);
+    *rows = height - settled(height);
+    return 0;
+}
+
+const struct library plain = {"plain", filter, measure,    judge,     count,   two_means,
+                              sample,  length, scan_start, scan_rows, scan_end};

@@ -1,14 +1,22 @@
 """What bench/run prints, and the file that bench/plot reads."""
 
+FULL = {'1024': 'random'}  # the input of the whole filter whose side is not its name
+
 
 def ours(rows, row):
     """gong's row on the same input."""
     return next(other for other in rows if (other.call, other.given, other.name) == (row.call, row.given, 'gong'))
 
 
+def whole(rows, scan):
+    """gong's whole filter on the levels that a scan brings row by row."""
+    side = scan.given.partition('-')[0]
+    return next(row for row in rows if (row.call, row.given, row.name) == ('filter', FULL.get(side, side), 'gong'))
+
+
 def ratio(rows, row):
-    """gong's time over the row's: below 1 gong is faster."""
-    return ours(rows, row).least / row.least
+    """gong's time over the row's: below 1 gong is faster. A scan's is its time over the whole filter's."""
+    return row.least / whole(rows, row).least if row.call == 'scan' else ours(rows, row).least / row.least
 
 
 def figure(value):
@@ -38,6 +46,16 @@ def show_pairs(rows):
             print(f'{name + ", a " + row.unit:44}{times}{figure(ratio(rows, row)):>8}')
 
 
+def show_scans(rows):
+    """Scans beside the whole filter, a line for each size and number of rows a call."""
+    print(f'{"":44}{"scan":>8}{"whole":>10}{"ratio":>8}')
+    for row in rows:
+        if row.call == 'scan':
+            side, a_call = row.given.split('-by-')
+            name = f'{int(side):,} × {int(side):,}, {a_call} row{"" if a_call == "1" else "s"} a call'
+            print(f'{name:44}{figure(row.least):>8}{figure(whole(rows, row).least):>10}{figure(ratio(rows, row)):>8}')
+
+
 def calm(rows):
     """How far the middle turn of gong on the random picture lies above the least: 1.00 is a quiet machine."""
     times = sorted(next(row for row in rows if row.name == 'gong').times)
@@ -53,6 +71,8 @@ def show(rows, missing, turns):
         print(line)
     print('\ngong beside plain C, by size and by call')
     show_pairs([row for row in rows if row.name in ('gong', 'plain C') and row.given not in ('random', 'smooth')])
+    print("\na scan beside the whole filter, a pixel and pass; ratio = the scan's time over the whole filter's")
+    show_scans(rows)
     print(f'\nthe middle turn of gong on the random picture took {calm(rows):.2f} times the least')
 
 

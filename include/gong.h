@@ -6,7 +6,7 @@
  *
  * BUILDING      rt staticlib gong        makes target/staticlib/libgong.a, x86-64 code
  *               cc -Iinclude yours.c target/staticlib/libgong.a
- *               The library needs memcpy and memset, which every C library has, and 5 KB of stack, and
+ *               The library needs memcpy and memset, which every C library has, and 8 KB of stack, and
  *               nothing else: no start-up call, no memory of its own, no locale.
  *
  * NUMBERS       Every function returns a number of the table below, 0 for done. Where several
@@ -17,11 +17,12 @@
  *               an answer never holds what stood there before.
  *
  * OWNERSHIP     Everything is lent for the length of the call and no longer. The library keeps no
- *               pointer, allocates nothing and holds no state, so any number of threads may call it
- *               at the same time on memory of their own. A slice is a pointer and then its length
- *               in elements, not bytes; a null pointer with length 0 is an empty slice. What one
- *               call may write must not overlap anything else that is lent to that call. A pointer
- *               for an answer is never null.
+ *               pointer, allocates nothing and holds no state of its own: what a scan holds from one
+ *               call to the next is in memory that the caller lends to each of them. So any number
+ *               of threads may call it at the same time on memory of their own. A slice is a pointer
+ *               and then its length in elements, not bytes; a null pointer with length 0 is an empty
+ *               slice. What one call may write must not overlap anything else that is lent to that
+ *               call. A pointer for an answer is never null.
  *
  * UNITS         The unit stands at each parameter. Sixteenths of a pixel, picometres and eighths of
  *               a level are kept apart inside the library; C cannot, so mind which you pass.
@@ -34,7 +35,7 @@
  *               else
  *                   fprintf(stderr, "refused: %d\n", number);    // 14; length is 0
  *
- * examples/c/ has whole programs: filter.c, measure.c, threshold.c, sample.c and length.c.
+ * examples/c/ has whole programs: filter.c, scan.c, measure.c, threshold.c, sample.c and length.c.
  */
 #ifndef GONG_H
 #define GONG_H
@@ -47,12 +48,13 @@ extern "C" {
 #endif
 
 /* The numbers that come back: when each is given, exactly, and what the call leaves in lent
- * buffers. What to do about each: docs/numbers.md. 16 to 18 are of the program gongspindle alone. */
+ * buffers. What to do about each: docs/numbers.md. 16 to 18 are of the program gongspindle alone, and
+ * 20 to 22 of the scan. 19 is not given. */
 enum gong_number {
     GONG_DONE = 0,                 /* done; buffers as the call says                                     */
-    GONG_SIDE_OUT_OF_RANGE = 1,    /* width or height outside 1..1,024; nothing written                  */
+    GONG_SIDE_OUT_OF_RANGE = 1,    /* width or height outside 1..1,024, or no scan begun; nothing written */
     GONG_WRONG_LEVELS = 2,         /* levels lent are not width times height; nothing written            */
-    GONG_SHORT_OUTPUT = 3,         /* output shorter than width times height; nothing written            */
+    GONG_SHORT_OUTPUT = 3,         /* output shorter than width times height, or a scan's rows due; nothing written */
     GONG_SHORT_WORK = 4,           /* work buffer shorter than width times height; nothing written       */
     GONG_SIDE_NOT_BY_FOUR = 5,     /* measuring, a side no multiple of 4; nothing written                */
     GONG_BRIGHT_OUT_OF_RANGE = 6,  /* M outside 21,760..31,360; buffers filtered                         */
@@ -67,7 +69,10 @@ enum gong_number {
     GONG_INPUT_OUT_OF_RANGE = 15,  /* judge's input, or values to be counted, out of range; nothing written */
     GONG_UNKNOWN_KIND = 16,        /* the program only: unknown record kind                              */
     GONG_SHORT_BODY = 17,          /* the program only: record body cut short                            */
-    GONG_LONG_INPUT = 18           /* the program only: input above 32,768 bytes                         */
+    GONG_LONG_INPUT = 18,          /* the program only: input above 32,768 bytes                         */
+    GONG_PART_OF_A_ROW = 20,       /* a number of levels that is no whole number of rows; nothing written */
+    GONG_ROWS_BEYOND = 21,         /* rows beyond the height; nothing written                            */
+    GONG_NOT_THE_END = 22          /* an end before the last row or a second end; nothing written        */
 };
 
 /* The median, three times: the picture that the judge and the threshold look at.
@@ -84,6 +89,57 @@ enum gong_number {
  * Returns 0; or 1, 2, 3 or 4, and then nothing is written. */
 uint8_t gong_filter(const uint8_t *levels, size_t levels_len, size_t width, size_t height, uint16_t *output,
                     size_t output_len, uint16_t *work, size_t work_len);
+
+/* The median, three times, while the beam runs: the same picture as gong_filter's, row by row. A scan is
+ * started with its sides, is given one row or several at a time, and is ended. A filtered row comes out
+ * with the call that brings the third row below it, and the last three (or all, where the height is
+ * below three) with the end. However the rows are grouped, all that is given out, in order, is what
+ * gong_filter writes to its output.
+ *
+ * GONG_SCAN is how many 16-bit numbers a scan holds: the rows still needed, never the picture. The
+ * caller lends them, as `held`, to every call of the scan, and writes nothing to them between the calls.
+ * One such memory is one scan. Any number of scans may run at the same time; one may be copied, and goes
+ * on in the copy. What is in it: width, height, how many rows have come (height + 3 after the end, and
+ * any number above the height stands for that), and then, one behind the other, six rows of `width`
+ * numbers: two of levels (at most 255), two of pass one (at most 510), two of pass two (at most 1,020).
+ * A good start and a good end leave zeros for them. Nothing past them is looked at.
+ * All zeros is a scan that has not begun; and so is, to rows and to the end, memory shorter than
+ * GONG_SCAN, or with a side outside 1..1,024, or with a number above its range in one of the six rows.
+ * Elements of held past GONG_SCAN never change. */
+#define GONG_SCAN 6147
+
+/* Starts a scan. What the memory held before is dropped.
+ *   held     the memory of the scan, GONG_SCAN numbers, whatever is in them
+ *   width, height   each 1 to 1,024
+ * Returns 0; or 1 where a side is out of range or held is too short, and then nothing is written: a scan
+ * that was running goes on. */
+uint8_t gong_scan_start(uint16_t *held, size_t held_len, size_t width, size_t height);
+
+/* The next rows of a scan: any number of whole ones, none included.
+ *   held     the memory of the scan
+ *   levels   the rows, each of `width` levels of 8 bits, the topmost first
+ *   output   receives the rows of pass three that are due, in eighths of a level, the topmost first:
+ *            after k rows in all, the first k - 3 have come out. So one row given brings out one at
+ *            most, and n rows at most n. It needs as many elements as the rows due have; what it has
+ *            beyond them stays as it was
+ *   rows     receives how many rows came out
+ * No rows at all are taken at any time, the end given or not, and bring out none. held, levels and output
+ * must not overlap.
+ * Returns 0; or, tested in this order, 1 where no scan has begun, 20 where the levels are no whole number
+ * of rows, 21 where there are more rows than are left of the height, 3 where the output is shorter than
+ * the rows due; and then rows is 0, nothing else is written, and the scan goes on as if the call had not
+ * been made. */
+uint8_t gong_scan_rows(uint16_t *held, size_t held_len, const uint8_t *levels, size_t levels_len, uint16_t *output,
+                       size_t output_len, uint64_t *rows);
+
+/* The end of a scan, once its last row has come.
+ *   held, output, rows   as for gong_scan_rows: the last three rows come out, or all where the height is
+ *            below three
+ * held and output must not overlap. Afterwards only a start begins anew.
+ * Returns 0; or, tested in this order, 1 where no scan has begun, 22 before the last row and where the
+ * end was given already, 3 where the output is shorter than the rows due; and then rows is 0, nothing
+ * else is written, and the scan goes on as if the call had not been made. */
+uint8_t gong_scan_end(uint16_t *held, size_t held_len, uint16_t *output, size_t output_len, uint64_t *rows);
 
 /* Whether a picture may be measured: it is filtered, and judged by what came of it.
  *   levels, width, height, output, work   as for gong_filter; width and height are multiples of 4

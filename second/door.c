@@ -3,11 +3,12 @@
  * program on any machine that can run x86-64 code, in an emulator too.
  *
  * Beyond what `calls` can see it looks for what only C can get wrong: an answer that is not written
- * (it starts as all ones), an element written past a buffer (a guard stands behind it), and an empty
- * slice (its pointer is null). */
+ * (it starts as all ones), an element written past a buffer (a guard stands behind it), an empty
+ * slice (its pointer is null), and memory of a scan that a refused call changed. */
 #include <inttypes.h>
 #include <stdio.h>
 #include <stdlib.h>
+#include <string.h>
 
 #include "gong.h"
 
@@ -20,6 +21,9 @@
 static uint8_t levels_space[MOST];
 static uint16_t output_space[MOST + GUARDS], work_space[MOST + GUARDS];
 static uint32_t counts_space[MOST_COUNTS + GUARDS];
+
+/* The one scan, over all requests: all zeros before its first good start. And as it was before a call. */
+static uint16_t held[GONG_SCAN + GUARDS], held_before[GONG_SCAN + GUARDS];
 
 static int bytes(void *to, size_t count) { return fread(to, 1, count, stdin) == count; }
 
@@ -67,12 +71,14 @@ static int count_buffer(uint32_t *space, size_t *count)
     return 1;
 }
 
-static void guarded(int kept)
+static void sure(int so, const char *otherwise)
 {
-    if (kept) return;
-    puts("an element past the buffer was written");
+    if (so) return;
+    puts(otherwise);
     exit(3);
 }
+
+static void guarded(int kept) { sure(kept, "an element past the buffer was written"); }
 
 /* A buffer as the call leaves it. */
 static void show_values(const uint16_t *space, size_t count)
@@ -177,10 +183,57 @@ static int length(void)
     return 1;
 }
 
+/* Around each call to the scan: the memory is kept, and then looked at. */
+static void keep_held(void) { memcpy(held_before, held, sizeof held); }
+
+static void look_at_held(int number_back)
+{
+    size_t k;
+
+    for (k = 0; k < GUARDS; k++) guarded(held[GONG_SCAN + k] == GUARD);
+    sure(number_back == GONG_DONE || !memcmp(held_before, held, sizeof held), "a refused call changed what is held");
+}
+
+static int start(void)
+{
+    uint64_t width, height;
+    int number_back;
+
+    if (!number(&width) || !number(&height)) return 0;
+    keep_held();
+    number_back = gong_scan_start(held, GONG_SCAN, width, height);
+    look_at_held(number_back);
+    printf("b %d\n", number_back);
+    return 1;
+}
+
+/* `r` and `z` give back the same: `z` is lent no levels. */
+static int rows_or_end(int letter)
+{
+    uint64_t rows = UINT64_MAX;
+    size_t count = 0, output;
+    int number_back;
+
+    if (letter == 'r' && !slice(levels_space, 1, MOST, &count)) return 0;
+    if (!value_buffer(output_space, &output)) return 0;
+
+    uint16_t *one = output ? output_space : NULL;
+
+    keep_held();
+    number_back = letter == 'r' ? gong_scan_rows(held, GONG_SCAN, count ? levels_space : NULL, count, one, output, &rows)
+                                : gong_scan_end(held, GONG_SCAN, one, output, &rows);
+    look_at_held(number_back);
+    printf("%c %d %" PRIu64 "\n", letter, number_back, rows);
+    show_values(output_space, output);
+    return 1;
+}
+
 int main(void)
 {
     unsigned long answered = 0;
     int letter, good = 1;
+
+    for (size_t k = 0; k < GUARDS; k++) held[GONG_SCAN + k] = GUARD;
 
     while (good && (letter = getchar()) != EOF) {
         switch (letter) {
@@ -191,6 +244,9 @@ int main(void)
         case 't': good = two_means(); break;
         case 's': good = sample(); break;
         case 'l': good = length(); break;
+        case 'b': good = start(); break;
+        case 'r':
+        case 'z': good = rows_or_end(letter); break;
         default: good = 0;
         }
         answered += (unsigned long)good;

@@ -290,6 +290,22 @@ def coordinate(rng, side):
     ))()
 
 
+def start_arguments(rng):
+    """The sides of a scan: mostly small, so that rows which know nothing of them are whole ones now and then."""
+    wrong = rng.choice(8 * ('nothing',) + ('side', 'sides'))
+    return shaped(rng, wrong, [], rng.randint(1, 3), rng.randint(1, 7))[1:]
+
+
+def rows_arguments(rng):
+    """Levels and an output, for whatever scan there is."""
+    return [rng.randrange(256) for _ in range(rng.choice((0, 1, 2, 3, 4, 6, 6, 12)))], end_arguments(rng)[0]
+
+
+def end_arguments(rng):
+    """An output, for whatever scan there is."""
+    return (rng.choice((0, 1, 2, 3, 9, 40)), fill(rng)),
+
+
 # For each call, what makes good arguments for it.
 ARGUMENTS = {
     b'f': filter_arguments,
@@ -299,6 +315,9 @@ ARGUMENTS = {
     b't': two_means_arguments,
     b's': sample_arguments,
     b'l': length_arguments,
+    b'b': start_arguments,
+    b'r': rows_arguments,
+    b'z': end_arguments,
 }
 
 
@@ -348,7 +367,7 @@ def random_input(rng, kind):
     return DAMAGE[kind](rng, b''.join(good(rng) for _ in range(rng.randint(0, 60))))
 
 
-# For each call, one request that is sure to be good.
+# For each call, one request that is sure to be good. Those of a scan make one, in the order of their letters.
 EXAMPLES = {
     b'f': ([1, 2, 3, 4], 2, 2, (5, 9), (4, 8)),
     b'm': ([20] * 8 + [220] * 8, 4, 4, (17, 9), (16, 8)),
@@ -357,6 +376,9 @@ EXAMPLES = {
     b't': ([3, 0, 1] + [0] * 253,),
     b's': ([0, 0, 255, 255] * 4, 4, 4, 24, 24),
     b'l': (32, 800),
+    b'b': (2, 5),
+    b'r': ([0, 9, 1, 0, 7, 2, 5, 3, 8, 6], (5, 9)),
+    b'z': ((7, 9),),
 }
 
 
@@ -367,7 +389,8 @@ def endings():
         # after each of its bytes; of a long one, after the first sixty, the last, and some between
         yield from (whole + whole[:size] for size in range(len(whole) + 1) if size < 60 or size % 89 == 0 or size > len(whole) - 5)
     for whole in (wire.encoded(b't', [1] * (wire.MOST_COUNTS + 1)), wire.encoded(b'c', [8], (wire.MOST_COUNTS + 1, 0)),
-                  wire.encoded(b'c', [8] * (wire.MOST + 1), (256, 0))):
+                  wire.encoded(b'c', [8] * (wire.MOST + 1), (256, 0)), wire.encoded(b'r', [8] * (wire.MOST + 1), (0, 0)),
+                  wire.encoded(b'r', [], (wire.MOST + 1, 0)), wire.encoded(b'z', (wire.MOST + 1, 0))):
         yield from (whole, whole[:9])  # one element too many, whether it follows or not
     yield from (b'', b'?', b'\0', b'\xff' * 100)
 

@@ -1,9 +1,9 @@
-"""Document 01's rules, written a second time, in plain Python whole numbers.
+"""The rules of documents 01 and 02, written a second time, in plain Python whole numbers.
 
-Each call is one function. It takes every input and gives back what comes back: the number of the
-table first, then the rest, 0 where the call was refused. A lent buffer is a list, which the function
-changes where the rule says so. Nothing here was taken from the Rattle source; read it beside
-document 01.
+Each call is one function; those of a scan are methods of `Scan`. It takes every input and gives back
+what comes back: the number of the table first, then the rest, 0 where the call was refused. A lent
+buffer is a list, which the function changes where the rule says so. Nothing here was taken from the
+Rattle source; read it beside the documents.
 """
 from fractions import Fraction
 from math import isqrt
@@ -60,6 +60,59 @@ def twice_median(block):
     block.sort()
     middle = len(block) // 2
     return 2 * block[middle] if len(block) % 2 else block[middle - 1] + block[middle]
+
+
+class Scan:
+    """"Rows while the beam runs" (document 02, P1): one scan. The library may hold "only the rows still needed"; here every level
+    that has come is kept, and is filtered anew, as a picture, with each call that has rows to give out.
+    """
+
+    def __init__(self):
+        self.width = self.height = 0  # there was no good start yet
+        self.levels, self.ended = [], False
+
+    def start(self, width, height):
+        """"Width and height are told first": the number."""
+        number = misshapen(width * height, width, height)
+        if number == 0:
+            # "A good start drops what is held and begins anew."
+            self.width, self.height, self.levels, self.ended = width, height, [], False
+        return number,
+
+    def rows(self, levels, output):
+        """Then "one row or several at a time": the number, and how many third-pass rows the output received."""
+        if self.width == 0:
+            return 1, 0  # "1, also before a good start"
+        if len(levels) % self.width:
+            return 20, 0  # "a number of levels that is no whole number of rows"
+        if len(self.levels) + len(levels) > self.width * self.height:
+            return 21, 0  # "rows beyond the height"
+        return self.give_out(self.levels + levels, self.ended, output)
+
+    def end(self, output):
+        """Then "the end": the number, and how many third-pass rows the output received."""
+        if self.width == 0:
+            return 1, 0
+        if len(self.levels) < self.width * self.height or self.ended:
+            return 22, 0  # "an end before the last row or a second end"
+        return self.give_out(self.levels, True, output)
+
+    def give_out(self, levels, ended, output):
+        """What is left to do once it is settled which levels have come, and whether the end has."""
+        first, past = self.out(len(self.levels), self.ended), self.out(len(levels), ended)
+        if len(output) < (past - first) * self.width:
+            return 3, 0  # "where the output is shorter than the rows due from this call"
+        if first < past:
+            # Row j of pass three is made from the rows up to j + 3, so the rows due are those of the whole picture.
+            eighths = [0] * len(levels)
+            filter(levels, self.width, len(levels) // self.width, eighths, [0] * len(levels))
+            output[:(past - first) * self.width] = eighths[first * self.width:past * self.width]
+        self.levels, self.ended = levels, ended
+        return 0, past - first
+
+    def out(self, levels, ended):
+        """How many rows are out by then: each "with the call that brings the third row below it, the rest with the end"."""
+        return self.height if ended else max(levels // self.width - 3, 0)
 
 
 def measure(levels, width, height, output, work):

@@ -80,8 +80,9 @@ class Buffer(Slice):
 LEVELS, VALUES, COUNTS = Slice('B', MOST), Slice('H', MOST), Slice('I', MOST_COUNTS)
 VALUE_BUFFER, COUNT_BUFFER = Buffer('H', MOST), Buffer('I', MOST_COUNTS)
 
-# A call: what its arguments are, and the rule that takes them and gives back the first line's numbers.
-Call = namedtuple('Call', 'arguments rule')
+# A call: what its arguments are, and the rule that takes them and gives back the first line's numbers. A call of a scan is a
+# rule that takes the scan before them: `calls` keeps one over all its requests.
+Call = namedtuple('Call', 'arguments rule of_a_scan', defaults=[False])
 
 CALLS = {
     b'f': Call([LEVELS, UNSIGNED, UNSIGNED, VALUE_BUFFER, VALUE_BUFFER], rules.filter),
@@ -91,6 +92,9 @@ CALLS = {
     b't': Call([COUNTS], rules.two_means),
     b's': Call([LEVELS, UNSIGNED, UNSIGNED, SIGNED, SIGNED], rules.sample),
     b'l': Call([SIGNED, UNSIGNED], rules.length),
+    b'b': Call([UNSIGNED, UNSIGNED], rules.Scan.start, of_a_scan=True),
+    b'r': Call([LEVELS, VALUE_BUFFER], rules.Scan.rows, of_a_scan=True),
+    b'z': Call([VALUE_BUFFER], rules.Scan.end, of_a_scan=True),
 }
 
 
@@ -119,10 +123,12 @@ def asked(data):
     return found, True
 
 
-def answer(letter, values):
-    """The lines that answer a request: the numbers that come back, then each buffer as the call leaves it."""
+def answer(letter, values, scan):
+    """The lines that answer a request: the numbers that come back, then each buffer as the call leaves it. The scan is the one
+    that the requests before it have left."""
     call = CALLS[letter]
-    lines = [' '.join([letter.decode(), *map(str, call.rule(*values))])]
+    numbers = call.rule(scan, *values) if call.of_a_scan else call.rule(*values)
+    lines = [' '.join([letter.decode(), *map(str, numbers)])]
     for kind, value in zip(call.arguments, values):
         if isinstance(kind, Buffer):
             lines.append(' '.join(map(str, value)))
@@ -132,5 +138,6 @@ def answer(letter, values):
 def written(data):
     """All the lines that `calls` writes for an input."""
     found, good = asked(data)
-    lines = [line for letter, values in found for line in answer(letter, values)]
+    scan = rules.Scan()
+    lines = [line for letter, values in found for line in answer(letter, values, scan)]
     return lines + [f'answered {len(found)}' if good else f'bad request {len(found)}']

@@ -1,18 +1,47 @@
 """What document 01 works out by hand, with the answers that the document itself prints.
 
 These are typed from the document ("What a student can work by hand") and not computed: they hold
-this second program to the paper, as the comparison holds the first program to this one. (One is
-worked out from a sentence: a sample on a pixel is the pixel's own level.)
+this second program to the paper, as the comparison holds the first program to this one. (Some are
+worked out from a sentence: a sample on a pixel is the pixel's own level, and a scan gives out the rows of
+the same pictures, each when document 02 says.)
 Each row: the call, its arguments, what comes back. The rows of RECORDS are whole inputs of the program
 `gongspindle`, and the lines that the document and the project's decisions say.
 """
 import rules
+from scan_inputs import groupings
 
 
 def filtered(width, height, levels):
     """The eighths of a picture, by way of the whole call."""
     output, work = [0] * len(levels), [0] * len(levels)
     return rules.filter(levels, width, height, output, work) + tuple(output)
+
+
+def played(*calls):
+    """What some calls to one scan give back. A call is its name and its arguments, the output told by its length: it is lent full
+    of sevens, and what it holds afterwards stands behind the number and the rows."""
+    scan, answers = rules.Scan(), []
+    for name, *arguments in calls:
+        if name == 'start':
+            answers.append(scan.start(*arguments))
+        else:
+            *levels, room = arguments
+            output = [7] * room
+            answers.append(getattr(scan, name)(*levels, output) + tuple(output))
+    return answers
+
+
+def given_out(width, height, levels):
+    """All that a scan of a picture can give out, over every way to part its rows into groups."""
+    found = set()
+    for groups in groupings(height):
+        calls, at = [('start', width, height)], 0
+        for rows in groups:
+            calls.append(('rows', levels[at:at + rows * width], len(levels)))
+            at += rows * width
+        answers = played(*calls, ('end', len(levels)))
+        found.add(tuple(value for _, rows, *output in answers[1:] for value in output[:rows * width]))
+    return found
 
 
 def first_pass(width, height, levels):
@@ -51,12 +80,46 @@ def counted_and_parted(width, height, levels):
     return rules.two_means(counts)
 
 
+# three columns and seven rows that no symmetry leaves alone
+UNEVEN = [0, 9, 1, 0, 7, 2, 200, 3, 90, 14, 255, 8, 31, 60, 5, 77, 2, 140, 13, 6, 99]
+
 WORKED = [
     # "1×1, level 7: 56 eighths. 1×2, 0 1: 4 4. 1×3, 0 0 9: 0 0 9. 2×2, 1 2 3 4: all 20."
     (filtered, (1, 1, [7]), (0, 56)),
     (filtered, (1, 2, [0, 1]), (0, 4, 4)),
     (filtered, (1, 3, [0, 0, 9]), (0, 0, 0, 9)),
     (filtered, (2, 2, [1, 2, 3, 4]), (0, 20, 20, 20, 20)),
+    # The same by rows (document 02, P1): up to three rows all come "with the end". "Output past the rows given out never changes."
+    (played, (('start', 1, 1), ('rows', [7], 1), ('end', 1)), [(0,), (0, 0, 7), (0, 1, 56)]),
+    (played, (('start', 1, 3), ('rows', [0], 1), ('rows', [0], 0), ('rows', [9], 1), ('end', 4)),
+     [(0,), (0, 0, 7), (0, 0), (0, 0, 7), (0, 3, 0, 0, 9, 7)]),
+    (played, (('start', 2, 2), ('rows', [1, 2, 3, 4], 1), ('end', 5)), [(0,), (0, 0, 7), (0, 2, 20, 20, 20, 20, 7)]),
+    # "A third-pass row comes out with the call that brings the third row below it": one level 5, which is 40 eighths everywhere
+    (played, (('start', 1, 5), ('rows', [5] * 3, 2), ('rows', [5], 2), ('rows', [5], 2), ('end', 4)),
+     [(0,), (0, 0, 7, 7), (0, 1, 40, 7), (0, 1, 40, 7), (0, 3, 40, 40, 40, 7)]),
+    (played, (('start', 1, 5), ('rows', [5] * 5, 3), ('end', 3)), [(0,), (0, 2, 40, 40, 7), (0, 3, 40, 40, 40)]),
+    # "However the rows are grouped, all rows given out together equal the whole filter's output."
+    (given_out, (1, 1, [7]), {(56,)}),
+    (given_out, (1, 2, [0, 1]), {(4, 4)}),
+    (given_out, (1, 3, [0, 0, 9]), {(0, 0, 9)}),
+    (given_out, (2, 2, [1, 2, 3, 4]), {(20, 20, 20, 20)}),
+    (given_out, (3, 7, UNEVEN), {filtered(3, 7, UNEVEN)[1:]}),
+    # "1, also before a good start", whatever else is wrong
+    (played, (('start', 0, 1), ('rows', [], 0), ('rows', [5], 1), ('end', 0)), [(1,), (1, 0), (1, 0, 7), (1, 0)]),
+    (played, (('start', 1_024, 1_024), ('start', 1_025, 1), ('start', 1, 1_025)), [(0,), (1,), (1,)]),
+    # "20 for a number of levels that is no whole number of rows", "21 for rows beyond the height", "22 for an end before the last
+    # row or a second end", "then 3 where the output is shorter than the rows due"
+    (played, (('start', 2, 5), ('rows', [5] * 3, 0), ('rows', [5] * 13, 0)), [(0,), (20, 0), (20, 0)]),
+    (played, (('start', 2, 5), ('rows', [5] * 12, 0)), [(0,), (21, 0)]),
+    (played, (('start', 2, 5), ('rows', [5] * 8, 1), ('end', 0)), [(0,), (3, 0, 7), (22, 0)]),
+    (played, (('start', 1, 1), ('end', 0), ('rows', [5], 0), ('end', 0), ('end', 1), ('end', 1)),
+     [(0,), (22, 0), (0, 0), (3, 0), (0, 1, 40), (22, 0, 7)]),
+    # "A refused call changes nothing held", a start too. "A call with no rows is allowed and gives none", after the end as well.
+    (played, (('start', 1, 1), ('rows', [5], 0), ('rows', [5], 1), ('start', 0, 1), ('rows', [], 0), ('end', 1), ('rows', [], 0)),
+     [(0,), (0, 0), (21, 0, 7), (1,), (0, 0), (0, 1, 40), (0, 0)]),
+    # "A good start drops what is held and begins anew."
+    (played, (('start', 1, 4), ('rows', [200] * 3, 0), ('start', 1, 2), ('rows', [0, 1], 0), ('end', 2)),
+     [(0,), (0, 0), (0,), (0, 0), (0, 2, 4, 4)]),
     # "3×3, 1 to 9, first pass in halves: 6 7 8, 9 10 11, 12 13 14."
     (first_pass, (3, 3, [1, 2, 3, 4, 5, 6, 7, 8, 9]), (6, 7, 8, 9, 10, 11, 12, 13, 14)),
     # "Judge with N = 256, M = 25,600: m = 6,400, D = 419,430,400 gives 0 and 1,362; D = 943,718,400 gives 9 and 862;

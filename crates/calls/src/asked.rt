@@ -5,6 +5,7 @@ ghost use mir.Syntax.{w64};
 ghost use mir.Val.{toZ};
 ghost use Rattle.units.specs.Units.{sixteenths, picometres, eighths};
 ghost use Rattle.filter.specs.Filter.{FilterIs, outcome};
+ghost use Rattle.memory.specs.Memory.{StartIs};
 ghost use Rattle.judge.specs.Judge.{JudgeIs};
 ghost use Rattle.judge.specs.Measure.{MeasureIs, measurement};
 ghost use Rattle.sample.specs.Cubic.{SampleIs};
@@ -30,6 +31,13 @@ pub(crate) fn filter(levels: &[u8], b: &[u8; 16], output: &mut [u16], work: &mut
         output,
         work,
     )
+}
+
+// `b`: width, height.
+pub(crate) fn start(held: &mut [u16], b: &[u8; 16]) -> u8
+    ensures { λ r. ⌜ StartIs (now (held .entry)) (argument (now (b .entry)) 0) (argument (now (b .entry)) 1) r (now (held .exit)) ⌝ }
+{
+    memory::start(held, number(b, 0) as usize, number(b, 1) as usize)
 }
 
 // `m`: width, height.

@@ -6,6 +6,7 @@ use crate::ANSWERED;
 use crate::answer;
 use crate::asked;
 use crate::request;
+use scan::Given;
 
 // `f` and `m`: levels, width, height, output, work.
 pub(crate) fn picture(
@@ -94,6 +95,72 @@ fn buffers(block: &mut [u8], text: answer::Ended, output: &[u16], work: &[u16]) 
     let first = answer::values(block, text, output);
     let both = answer::values(block, first, work);
     answer::send(block, both)
+}
+
+// `b`: width, height. The scan that the program keeps begins.
+pub(crate) fn start(block: &mut [u8], held: &mut [u16]) -> u8
+    requires { ⌜ 32 ≤ length (now block) ⌝ }
+{
+    let mut sides = [0u8; 16];
+    let how = request::fill(&mut sides);
+    if how != ANSWERED {
+        return how;
+    }
+    let number = asked::start(held, &sides);
+    let text = answer::line(block, b'b', &[number as u64]);
+    answer::send(block, text)
+}
+
+// `r`: levels, output.
+pub(crate) fn rows(block: &mut [u8], held: &mut [u16], levels: &mut [u8], one: &mut [u16]) -> u8
+    requires { ⌜ 32 ≤ length (now block) ⌝ }
+{
+    let l = request::levels(levels);
+    if l.how != ANSWERED {
+        return l.how;
+    }
+    let a = request::value_buffer(one);
+    if a.how != ANSWERED {
+        return a.how;
+    }
+    let i = l.count;
+    let j = a.count;
+    rows_lent(block, held, &levels[..i], &mut one[..j])
+}
+
+fn rows_lent(block: &mut [u8], held: &mut [u16], levels: &[u8], output: &mut [u16]) -> u8
+    requires { ⌜ 32 ≤ length (now block) ⌝ }
+{
+    let given = scan::rows(held, levels, output);
+    given_rows(block, b'r', given, output)
+}
+
+// `z`: output.
+pub(crate) fn end(block: &mut [u8], held: &mut [u16], one: &mut [u16]) -> u8
+    requires { ⌜ 32 ≤ length (now block) ⌝ }
+{
+    let a = request::value_buffer(one);
+    if a.how != ANSWERED {
+        return a.how;
+    }
+    let j = a.count;
+    end_lent(block, held, &mut one[..j])
+}
+
+fn end_lent(block: &mut [u8], held: &mut [u16], output: &mut [u16]) -> u8
+    requires { ⌜ 32 ≤ length (now block) ⌝ }
+{
+    let given = scan::end(held, output);
+    given_rows(block, b'z', given, output)
+}
+
+// The answer of a call that gives rows out.
+fn given_rows(block: &mut [u8], letter: u8, given: Given, output: &[u16]) -> u8
+    requires { ⌜ 32 ≤ length (now block) ⌝ }
+{
+    let text = answer::line(block, letter, &[given.number as u64, given.rows as u64]);
+    let all = answer::values(block, text, output);
+    answer::send(block, all)
 }
 
 // `j`: count, bright, dark, spread.

@@ -33,12 +33,16 @@ fn call(
     one: &mut [u16],
     two: &mut [u16],
     counts: &mut [u32],
+    held: &mut [u16],
 ) -> u8
     requires { ⌜ 32 ≤ length (now block) ⌝ }
 {
     match letter {
         b'f' => each::picture(letter, block, levels, one, two),
         b'm' => each::picture(letter, block, levels, one, two),
+        b'b' => each::start(block, held),
+        b'r' => each::rows(block, held, levels, one),
+        b'z' => each::end(block, held, one),
         b'j' => each::judge(block),
         b'c' => each::count(block, one, counts),
         b't' => each::two_means(block, counts),
@@ -55,11 +59,12 @@ fn turn(
     one: &mut [u16],
     two: &mut [u16],
     counts: &mut [u32],
+    held: &mut [u16],
 ) -> u8
     requires { ⌜ 32 ≤ length (now block) ⌝ }
 {
     match request::beginning() {
-        Next::Letter(letter) => call(letter, block, levels, one, two, counts),
+        Next::Letter(letter) => call(letter, block, levels, one, two, counts, held),
         Next::Nothing(how) => how,
     }
 }
@@ -77,12 +82,19 @@ fn finish(block: &mut [u8], how: u8, answered: u64) {
 
 // Requests, one after the other. Nothing says that the input ends, so the count of them is what
 // ends the loop, at a number that no run reaches.
-fn serve(block: &mut [u8], levels: &mut [u8], one: &mut [u16], two: &mut [u16], counts: &mut [u32])
+fn serve(
+    block: &mut [u8],
+    levels: &mut [u8],
+    one: &mut [u16],
+    two: &mut [u16],
+    counts: &mut [u32],
+    held: &mut [u16],
+)
     requires { ⌜ 32 ≤ length (now block) ⌝ }
 {
     let mut answered: u64 = 0;
     while answered < 18446744073709551615 {
-        let how = turn(block, levels, one, two, counts);
+        let how = turn(block, levels, one, two, counts, held);
         if how != ANSWERED {
             finish(block, how, answered);
             return;
@@ -118,6 +130,13 @@ fn count_space() -> [u32; 4096]
     [0; 4096]
 }
 
+// The memory of the one scan that the program keeps: all zeros is "before a good start".
+fn scan_space() -> [u16; 6147]
+    ensures { λ r. ⌜ Places 6147 r ⌝ }
+{
+    [0; 6147]
+}
+
 // The spaces are made once and lent, so that no request pays for clearing them: 5 MiB of the 8 that
 // a stack has.
 fn main() {
@@ -126,5 +145,13 @@ fn main() {
     let mut one = value_space();
     let mut two = value_space();
     let mut counts = count_space();
-    serve(&mut block, &mut levels, &mut one, &mut two, &mut counts);
+    let mut held = scan_space();
+    serve(
+        &mut block,
+        &mut levels,
+        &mut one,
+        &mut two,
+        &mut counts,
+        &mut held,
+    );
 }

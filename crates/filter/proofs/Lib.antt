@@ -11,3 +11,4 @@ pub mod Parts
 pub mod Outcomes
 pub mod Drawn
 pub mod Examples
+pub mod RowOutcomes

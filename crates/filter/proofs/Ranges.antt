@@ -48,7 +48,7 @@ most-block b above here below i p q r =
     (most-append b (near i above) (near i here) (most-near b i above p) (most-near b i here q))
     (most-near b i below r)
 
-most-row : (b : ℕ) (above here below : List ℕ) → AtMost b above → AtMost b here → AtMost b below → AtMost (b + b) (rowOf above here below)
+pub most-row : (b : ℕ) (above here below : List ℕ) → AtMost b above → AtMost b here → AtMost b below → AtMost (b + b) (rowOf above here below)
 unfolding rowOf
 most-row b above here below p q r =
     most-joined (b + b) (length here) (λ i. twiceMedian (block above here below i) ∷ [])

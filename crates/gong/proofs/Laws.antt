@@ -8,6 +8,8 @@ use Rattle.units.specs.Units.{sixteenths, picometres, eighths}
 use Rattle.units.specs.declared.Sixteenths.{Sixteenths}
 use Rattle.units.specs.declared.Picometres.{Picometres}
 use Rattle.units.specs.declared.Eighths.{Eighths}
+use Rattle.scan.specs.Scan.{Scanned, scanned, RowsIs, EndIs}
+use Rattle.scan.proofs.Outcomes.{one-rows, one-end}
 use Rattle.judge.specs.declared.Verdict.{Verdict}
 use Rattle.judge.specs.Judge.{verdict, JudgeIs}
 use Rattle.judge.specs.Measure.{Measurement, measurement, MeasureIs}
@@ -54,6 +56,21 @@ module _ (levels : List ℕ) (w h : ℕ) (output work : List ℕ) (n q n' q' : �
     ap (λ (m : Measurement). m .output) same-measurement,
     ap (λ (m : Measurement). m .work) same-measurement,
   )
+
+-- any two outcomes that `gong_scan_rows` is permitted, the number that it returns, the rows that it writes, the memory and the output, are equal;
+-- and those of `gong_scan_end`
+parts : {n q n' q' : ℕ} {held output held' output' : List ℕ} → scanned n q held output ≡ scanned n' q' held' output'
+    → (n ≡ n') × (q ≡ q') × (held ≡ held') × (output ≡ output')
+parts e = (ap (λ (r : Scanned). r .number) e, ap (λ (r : Scanned). r .rows) e, ap (λ (r : Scanned). r .held) e, ap (λ (r : Scanned). r .output) e)
+
+module _ (n q n' q' : ℕ) (left out left' out' : List ℕ) where
+  pub one-scan-rows : (held levels output : List ℕ) → RowsIs held levels output (scanned n q left out) → RowsIs held levels output (scanned n' q' left' out')
+      → (n ≡ n') × (q ≡ q') × (left ≡ left') × (out ≡ out')
+  one-scan-rows held levels output this that = parts (one-rows held levels output (scanned n q left out) (scanned n' q' left' out') this that)
+
+  pub one-scan-end : (held output : List ℕ) → EndIs held output (scanned n q left out) → EndIs held output (scanned n' q' left' out')
+      → (n ≡ n') × (q ≡ q') × (left ≡ left') × (out ≡ out')
+  one-scan-end held output this that = parts (one-end held output (scanned n q left out) (scanned n' q' left' out') this that)
 
 -- any two outcomes that `gong_two_means` is permitted, the number that it returns and the three that it writes, are equal
 module _ (h : List ℕ) (n k a b n' k' a' b' : ℕ) (this : TwoMeansIs h (answered n k (fraction a b))) (that : TwoMeansIs h (answered n' k' (fraction a' b'))) where

@@ -3,6 +3,8 @@
 // the function returns and through the pointers that the caller lends.
 ghost use Rattle.units.specs.Units.{sixteenths, picometres, eighths};
 ghost use Rattle.filter.specs.Filter.{outcome, FilterIs};
+ghost use Rattle.memory.specs.Memory.{StartIs};
+ghost use Rattle.scan.specs.Scan.{scanned, RowsIs, EndIs};
 ghost use Rattle.judge.specs.Judge.{verdict, JudgeIs};
 ghost use Rattle.judge.specs.Measure.{measurement, MeasureIs};
 ghost use Rattle.threshold.specs.Histogram.{tally, CountIs};
@@ -27,6 +29,39 @@ pub extern "C" fn gong_filter(
     ensures { λ r. ⌜ FilterIs (now (levels .entry)) width height (now (output .entry)) (now (work .entry)) (outcome r (now (output .exit)) (now (work .exit))) ⌝ }
 {
     filter::filter(levels, width, height, output, work)
+}
+
+// A scan begins, in memory that the caller lends, of a picture of `height` rows of `width` levels.
+#[no_mangle]
+pub extern "C" fn gong_scan_start(held: &mut [u16], width: usize, height: usize) -> u8
+    ensures { λ r. ⌜ StartIs (now (held .entry)) width height r (now (held .exit)) ⌝ }
+{
+    memory::start(held, width, height)
+}
+
+// Rows of a scan come: output receives the filtered rows that they complete, rows how many.
+#[no_mangle]
+pub extern "C" fn gong_scan_rows(
+    held: &mut [u16],
+    levels: &[u8],
+    output: &mut [u16],
+    rows: &mut u64,
+) -> u8
+    ensures { λ r. ⌜ RowsIs (now (held .entry)) (now (levels .entry)) (now (output .entry)) (scanned r (now (rows .exit)) (now (held .exit)) (now (output .exit))) ⌝ }
+{
+    let given = scan::rows(held, levels, output);
+    *rows = given.rows as u64;
+    given.number
+}
+
+// The end of a scan: output receives the filtered rows that are still due, rows how many.
+#[no_mangle]
+pub extern "C" fn gong_scan_end(held: &mut [u16], output: &mut [u16], rows: &mut u64) -> u8
+    ensures { λ r. ⌜ EndIs (now (held .entry)) (now (output .entry)) (scanned r (now (rows .exit)) (now (held .exit)) (now (output .exit))) ⌝ }
+{
+    let last = scan::end(held, output);
+    *rows = last.rows as u64;
+    last.number
 }
 
 // Measuring: the picture filtered, and the ratio in hundredths.

@@ -1,6 +1,7 @@
 pub mod Order
 pub mod Refusals
 pub mod Greatest
+pub mod Most
 pub mod Differences
 pub mod Lists
 pub mod Writing

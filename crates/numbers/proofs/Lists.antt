@@ -2,12 +2,12 @@
 -- are set one after the other. Assumes nothing.
 use mathlib.Core.Path.{_≡_, refl, sym, _∙_}
 use mathlib.Core.List.{List, [], _∷_, _++_}
-use Prim.Native.Nat.{ℕ, zero, suc, _+_, _*_, _<_, _≤_, zero-le}
-use native.Mathlib.Nat.{zero-mul, suc-mul, mul-le-mul-right}
+use Prim.Native.Nat.{ℕ, zero, suc, _+_, _-_, _*_, _<_, _≤_, zero-le}
+use native.Mathlib.Nat.{zero-mul, suc-mul, mul-le-mul-right, sub-zero, suc-sub-suc, le-of-suc-le-suc, not-suc-le-zero}
 use native.Mathlib.Decide.{decLt, ℕ-discrete}
 use native.Mathlib.Omega.{arith}
 use lib.ListN.{length, getD, set, take, drop, replicate, length-set, length-append, List·getD-append}
-use lib.Seq.{slice, getD-append-add, getD-take, getD-drop, getD-set-same, getD-set-other, ext-getD}
+use lib.Seq.{slice, take-nil, getD-append-add, getD-take, getD-drop, getD-set-same, getD-set-other, ext-getD}
 use Rattle.numbers.specs.Lists.{joined, AtMost}
 use Rattle.numbers.proofs.Refusals.{alike}
 
@@ -31,6 +31,18 @@ joined-at (suc n) w f p j i g h =
       | yes r ↦ List·getD-append (joined n f) (f n) 0 (j * w + i) (omega (arith, mul-le-mul-right w r)) ∙ joined-at n w f q j i r h
       | no r ↦ let e : j ≡ n = omega arith in rw e (at-seam (joined n f) (f n) (n * w) i l)
     ]
+
+-- a list of no elements
+pub no-elements : (l : List ℕ) → length l ≡ 0 → l ≡ []
+no-elements [] e = refl
+no-elements (x ∷ l) e = absurd (let z : ⊥ = omega arith in z)
+
+-- a part as the code takes it
+pub part-is : (f t : ℕ) (l : List ℕ) → f ≤ t → take (t - f) (drop f l) ≡ slice f t l
+part-is zero t l h = rw sub-zero
+part-is (suc f) zero l h = absurd (not-suc-le-zero h)
+part-is (suc f) (suc t) [] h = take-nil (suc t - suc f)
+part-is (suc f) (suc t) (x ∷ l) h = rw suc-sub-suc (part-is f t l (le-of-suc-le-suc h))
 
 -- what stands at place k of the n elements from a on
 pub part-at : (a n : ℕ) (x : List ℕ) (k : ℕ) → k < n → getD (take n (drop a x)) k 0 ≡ getD x (a + k) 0

@@ -6,7 +6,7 @@ use native.Mathlib.Nat.{add-zero, zero-add}
 use native.Mathlib.Numerals.{add-one}
 use native.Mathlib.Omega.{arith}
 use lib.ListN.{length, getD, take, drop, set, length-set, length-append, length-drop, take-append-drop}
-use lib.Seq.{length-take-le, take-at, drop-at, drop-drop, take-suc, set-split, append-snoc}
+use lib.Seq.{take-length, length-take-le, take-at, drop-at, drop-drop, take-suc, set-split, append-snoc}
 use Rattle.numbers.specs.Lists.{joined, listed, over}
 use Rattle.numbers.proofs.Lists.{length-joined}
 
@@ -84,3 +84,9 @@ overwritten-more before at f l i x room is so-far = record { is = more; long = l
 pub overwritten-front : (before : List ℕ) (f : ℕ → ℕ) (l : List ℕ) (i x : ℕ) → i < length before → x ≡ f i → Overwritten before 0 f l i
     → Overwritten before 0 f (set l i x) (i + 1)
 overwritten-front before f l i x room is so-far = rw (zero-add i) at (overwritten-more before 0 f l i x (omega arith) is so-far)
+
+-- all of a list m
+pub overwritten-all : (before : List ℕ) (at : ℕ) (m l : List ℕ) (i : ℕ) → i ≡ length m → Overwritten before at (λ k. getD m k 0) l i
+    → l ≡ over before at m
+overwritten-all before at m l i all so-far =
+    so-far .is ∙ ap (over before at) (ap (λ (n : ℕ). listed n (λ k. getD m k 0)) all ∙ listed-take m (length m) (omega arith) ∙ take-length m)

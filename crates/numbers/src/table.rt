@@ -1,5 +1,5 @@
 // Document 01, "Numbers that come back": each number once, with the table's own words. (16 to 18 are of
-// the program gongspindle.)
+// the program gongspindle; those from 20 on are of document 02.)
 
 // "done"
 pub const DONE: u8 = 0;
@@ -57,3 +57,12 @@ pub const SHORT_BODY: u8 = 17;
 
 // "program input above 32,768 bytes"
 pub const LONG_INPUT: u8 = 18;
+
+// Document 02, P1: "a number of levels that is no whole number of rows"
+pub const PART_OF_A_ROW: u8 = 20;
+
+// "rows beyond the height"
+pub const ROWS_BEYOND: u8 = 21;
+
+// "an end before the last row or a second end"
+pub const NOT_THE_END: u8 = 22;

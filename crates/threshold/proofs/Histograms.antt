@@ -1,66 +1,31 @@
 -- Laws of counting: which values can be counted, what one value more adds to a histogram, and that its total is the number of values.
 -- Assumes nothing.
 use mathlib.Core.Path.{_≡_, refl, sym, _∙_}
-use mathlib.Core.Bool.{true, false, cond}
+use mathlib.Core.Bool.{Bool, true, false, cond}
 use mathlib.Core.List.{List}
-use mathlib.Core.Logic.{_≢_, ⊎-elim}
-use Prim.Native.Nat.{ℕ, zero, suc, _+_, _/_, _<_, _≤_, max, zero-le}
-use native.Mathlib.Nat.{le-max-left, le-max-right, max-le, le-trans, not-le-of-lt}
+use mathlib.Core.Logic.{_≢_, inl, inr}
+use Prim.Native.Nat.{ℕ, zero, suc, _+_, _/_, _<_, _≤_}
 use native.Mathlib.Numerals.{add-one}
-use native.Mathlib.Decide.{decLt, ℕ-discrete}
+use native.Mathlib.Decide.{ℕ-discrete}
 use native.Mathlib.Omega.{arith}
-use lib.Dec.{eqb, leb}
-use lib.ListN.{length, getD, set, replicate, length-set, length-replicate, getD-replicate, List·getD-eq-default}
+use lib.Dec.{eqb}
+use lib.ListN.{length, getD, set, replicate, length-set, length-replicate, getD-replicate}
 use lib.Seq.{getD-set-same, getD-set-other}
-use borrow.Author.Tests.{eq-eqb, ne-eqb, le-leb, lt-leb}
+use borrow.Author.Tests.{eq-eqb, ne-eqb}
 use Rattle.numbers.specs.Refusals.{Unless}
-use Rattle.numbers.specs.Greatest.{Least}
 use Rattle.numbers.specs.Lists.{AtMost}
 use Rattle.numbers.specs.Sums.{sum}
 use Rattle.numbers.proofs.Refusals.{stops, goes-on}
-use Rattle.numbers.proofs.Order.{le-or-lt}
 use Rattle.numbers.proofs.Sums.{sum-none, sum-more, sum-most, sum-same, sum-add}
 use Rattle.threshold.specs.Histogram.{addedAt, countOf, total, Countable, tally, Counted}
 use Rattle.threshold.specs.Asked.{addedUpTo, Added}
 
--- ---- the greatest value
--- `most` is the greatest of the first i values
-pub record Most (values : List ℕ) (most i : ℕ) : Type 0 where
-  pub up-to : (k : ℕ) → k < i → getD values k 0 ≤ most
-  pub no-more : (b : ℕ) → AtMost b values → most ≤ b
-
--- of none it is 0
-pub most-none : (values : List ℕ) → Most values 0 0
-most-none values = record { up-to = λ k h. absurd (let z : ⊥ = omega arith in z); no-more = λ b p. zero-le }
-
--- one value more, x
-pub most-more : (values : List ℕ) (most i x : ℕ) → x ≡ getD values i 0 → Most values most i → Most values (max most x) (i + 1)
-most-more values most i x is so-far = record { up-to = up-to; no-more = λ b p. max-le (so-far .no-more b p) (omega (arith, p i)) }
-  where
-    up-to : (k : ℕ) → k < i + 1 → getD values k 0 ≤ max most x
-    up-to k h = elim (decLt k i) [
-      | yes g ↦ le-trans (so-far .up-to k g) (le-max-left most x)
-      | no g ↦ let e : k ≡ i = omega arith in rw (e, ← is) (le-max-right most x)
-    ]
-
--- all values
-pub most-all : (values : List ℕ) (most i : ℕ) → length values ≤ i → Most values most i → Least (λ b. AtMost b values) most
-most-all values most i all so-far = record { holds = holds; least = so-far .no-more }
-  where
-    holds : AtMost most values
-    holds k = elim (decLt k i) [
-      | yes g ↦ so-far .up-to k g
-      | no g ↦ rw (List·getD-eq-default values 0 {n = k} (omega arith)) zero-le
-    ]
-
 -- ---- which values can be counted
--- as many as may be can be counted if the greatest is at most 2,040
-pub countable-is : (values : List ℕ) (most : ℕ) → 1 ≤ length values → length values ≤ 1048576 → Least (λ b. AtMost b values) most
-    → Unless (Countable values) (leb most 2040 ≡ false) (leb most 2040 ≡ true)
-countable-is values most some few l = ⊎-elim
-    (λ (h : most ≤ 2040). goes-on (record { some = some; few = few; small = λ k. le-trans (l .holds k) h }) (le-leb most 2040 h))
-    (λ (h : 2040 < most). stops (λ p. not-le-of-lt h (l .least 2040 (p .small))) (lt-leb most 2040 h))
-    (le-or-lt most 2040)
+-- as many as may be can be counted if each is at most 2,040
+pub countable-is : (values : List ℕ) (t : Bool) → 1 ≤ length values → length values ≤ 1048576
+    → Unless (AtMost 2040 values) (t ≡ false) (t ≡ true) → Unless (Countable values) (t ≡ false) (t ≡ true)
+countable-is values t some few (inl large) = stops (λ p. large .0 (p .small)) (large .1)
+countable-is values t some few (inr small) = goes-on (record { some = some; few = few; small = small .0 }) (small .1)
 
 -- a value that can be counted has one of 256 levels
 level-below : (values : List ℕ) (k : ℕ) → Countable values → getD values k 0 / 8 < 256

@@ -2,13 +2,11 @@
 // down").
 ghost use mathlib.Core.Path.{_≡_};
 ghost use mathlib.Core.Bool.{true, false};
-ghost use Prim.Native.Nat.{max};
 ghost use lib.ListN.{length};
 ghost use Rattle.numbers.specs.Refusals.{Unless};
-ghost use Rattle.numbers.specs.Greatest.{Least};
-ghost use Rattle.numbers.specs.Lists.{AtMost};
 ghost use Rattle.threshold.specs.Histogram.{Countable};
 ghost use Rattle.threshold.specs.Asked.{Added};
+use numbers::values;
 
 // Whether values can be counted. A test of its own, before the first is counted, is quicker than
 // one at each value: its loop takes several at once.
@@ -21,26 +19,7 @@ pub(crate) fn countable(values: &[u16]) -> bool
     if 1048576 < values.len() {
         return false;
     }
-    greatest(values) <= 2040
-}
-
-// The greatest of some values, 0 of none: the least number that none of them exceeds.
-fn greatest(values: &[u16]) -> u16
-    ensures { λ r. ⌜ Least (λ b. AtMost b (now (values .entry))) r ⌝ }
-{
-    let mut most = 0u16;
-    let mut i = 0usize;
-    while i < values.len() {
-        most = larger(most, values[i]);
-        i += 1;
-    }
-    most
-}
-
-fn larger(a: u16, b: u16) -> u16
-    ensures { λ r. ⌜ r ≡ max a b ⌝ }
-{
-    if a < b { b } else { a }
+    values::at_most(values, 2040)
 }
 
 // The counts of values: an array that starts with a zero in each place, to which each value adds one.

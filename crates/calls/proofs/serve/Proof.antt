@@ -8,16 +8,17 @@ use Rattle.calls.proofs.serve.Statement.{statement}
 use Rattle.calls.proofs.serve.Tie as tie
 
 abbrev Inv-loop : tie.InvT-loop
-Inv-loop block₀ levels₀ one₀ two₀ counts₀ answered₀ block levels one two counts answered =
+Inv-loop block₀ levels₀ one₀ two₀ counts₀ held₀ answered₀ block levels one two counts held answered =
     (32 ≤ length block)
     × (length block ≡ length block₀)
     × (length levels ≡ length levels₀)
     × (length one ≡ length one₀)
     × (length two ≡ length two₀)
     × (length counts ≡ length counts₀)
+    × (length held ≡ length held₀)
 
 abbrev μ-loop : tie.MeasureT-loop
-μ-loop block₀ levels₀ one₀ two₀ counts₀ answered₀ block levels one two counts answered = 18446744073709551615 - answered
+μ-loop block₀ levels₀ one₀ two₀ counts₀ held₀ answered₀ block levels one two counts held answered = 18446744073709551615 - answered
 
 loop-holds : tie.Need-loop-holds Inv-loop μ-loop
 loop-holds c = search needs
@@ -70,6 +71,12 @@ same-length-9 c = omega arith
 same-length-10 : tie.Need-same-length-10 Inv-loop μ-loop
 same-length-10 c = omega arith
 
+same-length-11 : tie.Need-same-length-11 Inv-loop μ-loop
+same-length-11 c = omega arith
+
+same-length-12 : tie.Need-same-length-12 Inv-loop μ-loop
+same-length-12 c = omega arith
+
 returns-2 : tie.Need-returns-2 Inv-loop μ-loop
 returns-2 c = search needs
 
@@ -87,13 +94,15 @@ serve-spec =
     same-length-3
     same-length-4
     same-length-5
+    same-length-6
     returns
     add-answered
     loop-less
     loop-again
-    same-length-6
     same-length-7
     same-length-8
     same-length-9
     same-length-10
+    same-length-11
+    same-length-12
     returns-2)

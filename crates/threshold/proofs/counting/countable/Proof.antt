@@ -1,4 +1,4 @@
--- `threshold::counting::countable` meets its contract: there are as many values as may be, and the greatest is at most 2,040. Assumes nothing.
+-- `threshold::counting::countable` meets its contract: there are as many values as may be, and each is at most 2,040. Assumes nothing.
 use mathlib.Core.Path.{refl}
 use native.Mathlib.Omega.{arith}
 use borrow.Author.Needs.{needs}
@@ -14,11 +14,11 @@ returns c = stops (λ p. omega (arith, p .some)) refl
 returns-2 : tie.Need-returns-2
 returns-2 c = stops (λ p. omega (arith, p .few)) refl
 
-greatest-requires : tie.Need-greatest-requires
-greatest-requires c κs = search needs
+at-most-requires : tie.Need-at-most-requires
+at-most-requires c κs = search needs
 
 returns-3 : tie.Need-returns-3
-returns-3 c = countable-is (now (c .before .before .before .before .args .values)) (c .greatest .result) (omega arith) (omega arith) (c .greatest .ensures)
+returns-3 c = countable-is (now (c .before .before .before .before .args .values)) _ (omega arith) (omega arith) (c .at-most .ensures)
 
 pub countable-spec : {M : Type 1} → statement M
-countable-spec = tie.close (tie.spec returns returns-2 greatest-requires returns-3)
+countable-spec = tie.close (tie.spec returns returns-2 at-most-requires returns-3)

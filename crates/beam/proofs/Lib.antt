@@ -1,0 +1,5 @@
+pub mod Whole
+pub mod Answers
+pub mod Parts
+pub mod Grouping
+pub mod Alike
