@@ -38,6 +38,10 @@ refused-with e = ap (λ (z : Scanned). z .held) e
 number-of : {r : Scanned} {n rows : ℕ} {held output : List ℕ} → r ≡ scanned n rows held output → r .number ≡ n
 number-of e = ap (λ (z : Scanned). z .number) e
 
+-- a call that answers another number than 0 was not done
+not-done : {r : Scanned} (n : ℕ) {rows : ℕ} {held output : List ℕ} → n ≢ 0 → r .number ≡ 0 → r ≡ scanned n rows held output → ⊥
+not-done n other z is = other (sym (number-of is) ∙ z)
+
 module _ (held levels output : List ℕ) (r : Scanned) where
   pub rows-refused : r .number ≢ 0 → RowsIs held levels output r → r .held ≡ held
   rows-refused some (inl a) = refused-with (a .1)
@@ -54,14 +58,11 @@ module _ (held levels output : List ℕ) (r : Scanned) where
     pub held-is : r .held ≡ rowsHeld held levels
     pub output-is : r .output ≡ atFront (rowsGiven held levels) output
 
-  zero-is : {n rows : ℕ} {left out : List ℕ} → r .number ≡ 0 → r ≡ scanned n rows left out → 0 ≡ n
-  zero-is z is = sym z ∙ number-of is
-
   pub rows-done : r .number ≡ 0 → RowsIs held levels output r → Came
-  rows-done z (inl a) = absurd (let n = zero-is z (a .1) in let no-way : ⊥ = omega (arith, n) in no-way)
-  rows-done z (inr (b, inl a)) = absurd (let n = zero-is z (a .1) in let no-way : ⊥ = omega (arith, n) in no-way)
-  rows-done z (inr (b, inr (c, inl a))) = absurd (let n = zero-is z (a .1) in let no-way : ⊥ = omega (arith, n) in no-way)
-  rows-done z (inr (b, inr (c, inr (d, inl a)))) = absurd (let n = zero-is z (a .1) in let no-way : ⊥ = omega (arith, n) in no-way)
+  rows-done z (inl a) = absurd (not-done 1 (λ e. omega (arith, e)) z (a .1))
+  rows-done z (inr (b, inl a)) = absurd (not-done 20 (λ e. omega (arith, e)) z (a .1))
+  rows-done z (inr (b, inr (c, inl a))) = absurd (not-done 21 (λ e. omega (arith, e)) z (a .1))
+  rows-done z (inr (b, inr (c, inr (d, inl a)))) = absurd (not-done 3 (λ e. omega (arith, e)) z (a .1))
   rows-done z (inr (b, inr (c, inr (d, inr (e, is))))) = record {
     begun = b;
     whole = c;
@@ -86,13 +87,10 @@ module _ (held output : List ℕ) (r : Scanned) where
     pub held-is : r .held ≡ memory (widthOf held) (heightOf held) (heightOf held + 3) (zeros 6144) (drop 6147 held)
     pub output-is : r .output ≡ atFront (endGiven held) output
 
-  no-zero : {n rows : ℕ} {left out : List ℕ} → r .number ≡ 0 → r ≡ scanned n rows left out → 0 ≡ n
-  no-zero z is = sym z ∙ number-of is
-
   pub end-done : r .number ≡ 0 → EndIs held output r → Finished
-  end-done z (inl a) = absurd (let n = no-zero z (a .1) in let no-way : ⊥ = omega (arith, n) in no-way)
-  end-done z (inr (b, inl a)) = absurd (let n = no-zero z (a .1) in let no-way : ⊥ = omega (arith, n) in no-way)
-  end-done z (inr (b, inr (c, inl a))) = absurd (let n = no-zero z (a .1) in let no-way : ⊥ = omega (arith, n) in no-way)
+  end-done z (inl a) = absurd (not-done 1 (λ e. omega (arith, e)) z (a .1))
+  end-done z (inr (b, inl a)) = absurd (not-done 22 (λ e. omega (arith, e)) z (a .1))
+  end-done z (inr (b, inr (c, inl a))) = absurd (not-done 3 (λ e. omega (arith, e)) z (a .1))
   end-done z (inr (b, inr (c, inr (d, is)))) = record {
     begun = b;
     last = c;

@@ -69,8 +69,8 @@ begins w h past wide high = record {
   count = sym (zero-mul w);
 }
 
--- ---- rows that came
-module _ (held x g levels output : List ℕ) (r : Scanned) (bytes : AtMost 255 levels) (came : Came held levels output r) where
+-- ---- a call that is done
+module _ (held x g output : List ℕ) (r : Scanned) where
   abbrev w : ℕ
   w = widthOf held
 
@@ -80,128 +80,124 @@ module _ (held x g levels output : List ℕ) (r : Scanned) (bytes : AtMost 255 l
   abbrev k : ℕ
   k = cameOf held
 
-  abbrev n : ℕ
-  n = length levels / w
+  -- ---- rows that came
+  module _ (levels : List ℕ) (bytes : AtMost 255 levels) (came : Came held levels output r) where
+    abbrev n : ℕ
+    n = length levels / w
 
-  module _ (so-far : Running w h x g held) where
-    few : k ≤ 65535
-    few = let high = came .begun .high .1 in let l = so-far .few in omega (arith, high, l)
+    module _ (so-far : Running w h x g held) where
+      few : k ≤ 65535
+      few = let high = came .begun .high .1 in let l = so-far .few in omega (arith, high, l)
 
-    in-reach : k + n ≤ h
-    in-reach = let within = came .within in let l = so-far .few in omega (arith, within, l)
+      in-reach : k + n ≤ h
+      in-reach = let within = came .within in let l = so-far .few in omega (arith, within, l)
 
-    new : givenOut w r ≡ given (after nothing (rowAt w x) k) (rowAt w levels) n
-    unfolding rowsGiven
-    new = gave held levels output r few bytes came ∙ ap (λ (q : Held). given q (rowAt w levels) n) (so-far .holds)
+      new : givenOut w r ≡ given (after nothing (rowAt w x) k) (rowAt w levels) n
+      unfolding rowsGiven
+      new = gave held levels output r few bytes came ∙ ap (λ (q : Held). given q (rowAt w levels) n) (so-far .holds)
 
-    grown : length g + length (givenOut w r) ≡ (k + n - 3) * w
-    grown =
-        let a = so-far .count in
-        let b = ap length (gave held levels output r few bytes came) ∙ given-long held levels output r few bytes came in
-        let d : k - 3 + due k n ≡ k + n - 3 = omega arith in
-        rw (a, b) (sym (add-mul (k - 3) (due k n) w) ∙ ap (λ (z : ℕ). z * w) d)
+      grown : length g + length (givenOut w r) ≡ (k + n - 3) * w
+      grown =
+          let a = so-far .count in
+          let b = ap length (gave held levels output r few bytes came) ∙ given-long held levels output r few bytes came in
+          let d : k - 3 + due k n ≡ k + n - 3 = omega arith in
+          rw (a, b) (sym (add-mul (k - 3) (due k n) w) ∙ ap (λ (z : ℕ). z * w) d)
 
-    then : Running w h (x ++ levels) (g ++ givenOut w r)
-        (memory w h (k + n) (later w h k (take (6147 - 3) (drop 3 held)) (rowAt w levels) n) (drop 6147 held))
-    unfolding memory
-    then = record {
-      begun = left-begun held levels output r few bytes came;
-      wide = refl;
-      high = refl;
-      few = in-reach;
-      long =
-          let a = so-far .long in
-          let b = levels-are held (came .begun) levels output bytes few (came .whole) (came .within) in
-          length-append x levels ∙ rw (add-mul k n w) (omega (arith, a, b));
-      holds =
-          left-held held levels output r few bytes came
-          ∙ ap (λ (q : Held). after q (rowAt w levels) n) (so-far .holds)
-          ∙ sym (after-more w k x levels (so-far .long) nothing n);
-      gave-all = rw (new, so-far .gave-all) (sym (given-more w k x levels (so-far .long) nothing n));
-      count = length-append g (givenOut w r) ∙ grown;
-    }
+      then : Running w h (x ++ levels) (g ++ givenOut w r)
+          (memory w h (k + n) (later w h k (take (6147 - 3) (drop 3 held)) (rowAt w levels) n) (drop 6147 held))
+      unfolding memory
+      then = record {
+        begun = left-begun held levels output r few bytes came;
+        wide = refl;
+        high = refl;
+        few = in-reach;
+        long =
+            let a = so-far .long in
+            let b = levels-are held (came .begun) levels output bytes few (came .whole) (came .within) in
+            length-append x levels ∙ rw (add-mul k n w) (omega (arith, a, b));
+        holds =
+            left-held held levels output r few bytes came
+            ∙ ap (λ (q : Held). after q (rowAt w levels) n) (so-far .holds)
+            ∙ sym (after-more w k x levels (so-far .long) nothing n);
+        gave-all = rw (new, so-far .gave-all) (sym (given-more w k x levels (so-far .long) nothing n));
+        count = length-append g (givenOut w r) ∙ grown;
+      }
 
-    runs-on : Running w h (x ++ levels) (g ++ givenOut w r) (r .held)
-    runs-on = subst (Running w h (x ++ levels) (g ++ givenOut w r)) (sym (left-is held levels output r few bytes came)) then
+      runs-on : Running w h (x ++ levels) (g ++ givenOut w r) (r .held)
+      runs-on = subst (Running w h (x ++ levels) (g ++ givenOut w r)) (sym (left-is held levels output r few bytes came)) then
 
-  -- past the end there are none
-  module _ (over : Ended w h x g held) where
-    few-past : k ≤ 65535
-    few-past = let high = came .begun .high .1 in let p = over .past in omega (arith, high, p)
+    -- past the end there are none
+    module _ (over : Ended w h x g held) where
+      few-past : k ≤ 65535
+      few-past = let high = came .begun .high .1 in let p = over .past in omega (arith, high, p)
 
-    no-rows : n ≡ 0
-    no-rows = let within = came .within in let p = over .past in omega (arith, within, p)
+      no-rows : n ≡ 0
+      no-rows = let within = came .within in let p = over .past in omega (arith, within, p)
 
-    no-levels : levels ≡ []
-    no-levels =
-        let all = levels-are held (came .begun) levels output bytes few-past (came .whole) (came .within) in
-        no-elements levels (all ∙ ap (λ (z : ℕ). z * w) no-rows ∙ zero-mul w)
+      no-levels : levels ≡ []
+      no-levels =
+          let all = levels-are held (came .begun) levels output bytes few-past (came .whole) (came .within) in
+          no-elements levels (all ∙ ap (λ (z : ℕ). z * w) no-rows ∙ zero-mul w)
 
-    none-given : givenOut w r ≡ []
-    none-given =
-        let none : due k n * w ≡ 0 = ap (λ (z : ℕ). z * w) (let d : due k n ≡ 0 = omega (arith, no-rows) in d) ∙ zero-mul w in
-        no-elements (givenOut w r)
-        (ap length (gave held levels output r few-past bytes came) ∙ given-long held levels output r few-past bytes came ∙ none)
+      none-given : givenOut w r ≡ []
+      none-given =
+          let none : due k n * w ≡ 0 = ap (λ (z : ℕ). z * w) (let d : due k n ≡ 0 = omega (arith, no-rows) in d) ∙ zero-mul w in
+          no-elements (givenOut w r)
+          (ap length (gave held levels output r few-past bytes came) ∙ given-long held levels output r few-past bytes came ∙ none)
 
-    then-past : Ended w h (x ++ levels) (g ++ givenOut w r)
-        (memory w h (k + n) (later w h k (take (6147 - 3) (drop 3 held)) (rowAt w levels) n) (drop 6147 held))
-    unfolding memory
-    then-past = record {
-      begun = left-begun held levels output r few-past bytes came;
-      wide = refl;
-      high = refl;
-      past = let p = over .past in omega (arith, p, no-rows);
-      picture = rw (no-levels, append-nil x) (over .picture);
-      whole = rw (no-levels, none-given, append-nil x, append-nil g) (over .whole);
-    }
+      then-past : Ended w h (x ++ levels) (g ++ givenOut w r)
+          (memory w h (k + n) (later w h k (take (6147 - 3) (drop 3 held)) (rowAt w levels) n) (drop 6147 held))
+      unfolding memory
+      then-past = record {
+        begun = left-begun held levels output r few-past bytes came;
+        wide = refl;
+        high = refl;
+        past = let p = over .past in omega (arith, p, no-rows);
+        picture = rw (no-levels, append-nil x) (over .picture);
+        whole = rw (no-levels, none-given, append-nil x, append-nil g) (over .whole);
+      }
 
-    stays-ended : Ended w h (x ++ levels) (g ++ givenOut w r) (r .held)
-    stays-ended = subst (Ended w h (x ++ levels) (g ++ givenOut w r)) (sym (left-is held levels output r few-past bytes came)) then-past
+      stays-ended : Ended w h (x ++ levels) (g ++ givenOut w r) (r .held)
+      stays-ended = subst (Ended w h (x ++ levels) (g ++ givenOut w r)) (sym (left-is held levels output r few-past bytes came)) then-past
 
--- ---- the end that is given
-module _ (held x g output : List ℕ) (r : Scanned) (done : Finished held output r) where
-  abbrev v : ℕ
-  v = widthOf held
+  -- ---- the end that is given
+  module _ (done : Finished held output r) where
+    module _ (so-far : Running w h x g held) where
+      is-picture : length x ≡ w * h
+      is-picture = so-far .long ∙ ap (λ (z : ℕ). z * w) (done .last) ∙ mul-comm h w
 
-  abbrev j : ℕ
-  j = heightOf held
+      -- the rows at the end are those of three rows more of nothing
+      last-rows : givenOut w r ≡ given (after nothing (rowAt w x) k) (rowAt w []) 3
+      unfolding endGiven
+      last-rows =
+          end-gave held output r done
+          ∙ ap (λ (q : Held). given q noRow 3) (so-far .holds)
+          ∙ given-same (after nothing (rowAt w x) k) noRow (rowAt w []) 3 (λ i p. sym (no-row w i))
 
-  module _ (so-far : Running v j x g held) where
-    is-picture : length x ≡ v * j
-    is-picture = so-far .long ∙ ap (λ (z : ℕ). z * v) (done .last) ∙ mul-comm j v
+      all-rows : g ++ givenOut w r ≡ eighths w h x
+      all-rows =
+          rw (last-rows, so-far .gave-all) (sym (given-more w k x [] (so-far .long) nothing 3))
+          ∙ ap (λ (z : List ℕ). given nothing (rowAt w z) (k + 3)) (append-nil x)
+          ∙ ap (λ (z : ℕ). given nothing (rowAt w x) (z + 3)) (done .last)
+          ∙ rows-give w h x is-picture
 
-    -- the rows at the end are those of three rows more of nothing
-    last-rows : givenOut v r ≡ given (after nothing (rowAt v x) (cameOf held)) (rowAt v []) 3
-    unfolding endGiven
-    last-rows =
-        end-gave held output r done
-        ∙ ap (λ (q : Held). given q noRow 3) (so-far .holds)
-        ∙ given-same (after nothing (rowAt v x) (cameOf held)) noRow (rowAt v []) 3 (λ i p. sym (no-row v i))
+      then-ended : Ended w h x (g ++ givenOut w r) (memory w h (h + 3) (zeros 6144) (drop 6147 held))
+      unfolding memory
+      then-ended = record {
+        begun = begun-zeros w h (h + 3) (drop 6147 held) (done .begun .wide) (done .begun .high);
+        wide = refl;
+        high = refl;
+        past = refl;
+        picture = is-picture;
+        whole = all-rows;
+      }
 
-    all-rows : g ++ givenOut v r ≡ eighths v j x
-    all-rows =
-        rw (last-rows, so-far .gave-all) (sym (given-more v (cameOf held) x [] (so-far .long) nothing 3))
-        ∙ ap (λ (z : List ℕ). given nothing (rowAt v z) (cameOf held + 3)) (append-nil x)
-        ∙ ap (λ (z : ℕ). given nothing (rowAt v x) (z + 3)) (done .last)
-        ∙ rows-give v j x is-picture
+      ends : Ended w h x (g ++ givenOut w r) (r .held)
+      ends = subst (Ended w h x (g ++ givenOut w r)) (sym (done .held-is)) then-ended
 
-    then-ended : Ended v j x (g ++ givenOut v r) (memory v j (j + 3) (zeros 6144) (drop 6147 held))
-    unfolding memory
-    then-ended = record {
-      begun = begun-zeros v j (j + 3) (drop 6147 held) (done .begun .wide) (done .begun .high);
-      wide = refl;
-      high = refl;
-      past = refl;
-      picture = is-picture;
-      whole = all-rows;
-    }
-
-    ends : Ended v j x (g ++ givenOut v r) (r .held)
-    ends = subst (Ended v j x (g ++ givenOut v r)) (sym (done .held-is)) then-ended
-
-  -- a second one is not
-  no-second : Ended v j x g held → ⊥
-  no-second over = let p = over .past in let l = done .last in let no-way : ⊥ = omega (arith, p, l) in no-way
+    -- a second one is not
+    no-second : Ended w h x g held → ⊥
+    no-second over = let p = over .past in let l = done .last in let no-way : ⊥ = omega (arith, p, l) in no-way
 
 -- ---- any list of calls
 -- what the memory means for what was told
@@ -219,10 +215,10 @@ means-done t held (start-call w h) r m z is =
 means-done told-nothing held (rows-call levels output) r m z is = tt
 means-done (since w h x g false) held (rows-call levels output) r m z is =
     at-sides (λ a b. Running a b x g held → Running a b (x ++ levels) (g ++ givenOut a r) (r .held)) (m .wide) (m .high)
-    (runs-on held x g levels output r (is .0) (rows-done held levels output r z (is .1))) m
+    (runs-on held x g output r levels (is .0) (rows-done held levels output r z (is .1))) m
 means-done (since w h x g true) held (rows-call levels output) r m z is =
     at-sides (λ a b. Ended a b x g held → Ended a b (x ++ levels) (g ++ givenOut a r) (r .held)) (m .wide) (m .high)
-    (stays-ended held x g levels output r (is .0) (rows-done held levels output r z (is .1))) m
+    (stays-ended held x g output r levels (is .0) (rows-done held levels output r z (is .1))) m
 means-done told-nothing held (end-call output) r m z is = tt
 means-done (since w h x g false) held (end-call output) r m z is =
     at-sides (λ a b. Running a b x g held → Ended a b x (g ++ givenOut a r) (r .held)) (m .wide) (m .high)
