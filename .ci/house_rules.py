@@ -4,11 +4,12 @@ Its docstring is the rule. `.ci/house` runs them all; `.ci/house-test` shows eac
 """
 import re
 import subprocess
+from functools import cache
 
 from promises import Page
 from tree import brought, items, outside, parted, source
 
-# The calls whose result no contract can determine, as docs/PROMISES.md says in a line "not determined": no others.
+# The calls whose result no contract can determine, as docs/PROMISES.md says in a part "Not determined": no others.
 UNDETERMINED = ('streams::read',)
 
 
@@ -34,59 +35,85 @@ def promises(tree):
 
 
 def promised(tree):
-    """docs/PROMISES.md has a table, or a row, for each function that another crate can reach, and for no other"""
+    """docs/PROMISES.md has a section, or a row, for each function that another crate can reach, as it is declared, and for no
+    other"""
     page = promises(tree)
     return ([f'{name} is not there' for name in tree.public if name not in page.calls]
             + [f'{name} is no such function' for name in page.calls if name not in tree.public]
-            + [f'{name} is there twice' for name in page.twice])
+            + [f'{name} is there twice' for name in page.twice]
+            + [f'{name} is declared otherwise' for name, function in tree.public.items()
+               if name in page.calls and not is_signature(page.calls[name], function)])
+
+
+def is_signature(parts, function):
+    """Whether a call's signature on the page is that of its source. A row does not say the result; what the parts of a result are
+    may follow its type."""
+    form = r'fn (\w+)(?:<[^>]*>)?\(([^)]*)\)(?: -> (.+?))?(?= requires\b| ensures\b|$)'
+    name, parameters, result = re.search(form, function.head).groups()
+    made = f'{name}({", ".join(part.strip() for part in parameters.split(",") if part.strip())})'
+    if 'all' in parts or not result:
+        return parts['signature'] == made
+    return bool(re.match(rf'{re.escape(f"{made} → {result}")}(?:$|,| {{)', parts['signature']))
 
 
 def determined(tree):
-    """docs/PROMISES.md says of each of them why any two outcomes are equal, and that is so: a law `one-..` is there, or the
-    promise is that of another call which has one, or it is an equation for the result; or the call is listed as undetermined"""
+    """docs/PROMISES.md says of each of them why any two outcomes are equal, and that is so: the theorem `one-CALL` is public in
+    proofs/Outcomes.antt of its crate, or the promise is that of another call which has one, or it is an equation for the result;
+    or the call is listed as undetermined"""
     page = promises(tree)
     said = {name: undetermined(tree, page, function) for name, function in tree.public.items() if name in page.calls}
     return ([f'{name}: {why}' for name, why in said.items() if why]
-            + [f'{name} is listed as undetermined, and there is no such function' for name in UNDETERMINED if name not in tree.public]
-            + [f'{name} is listed as undetermined, and no line says why' for name in UNDETERMINED
+            + [f'{name} is listed as undetermined, and there is no such function' for name in UNDETERMINED
+               if name not in tree.public]
+            + [f'{name} is listed as undetermined, and nothing says why' for name in UNDETERMINED
                if not page.calls.get(name, {}).get('not determined')])
+
+
+OUTCOMES = 'proofs/Outcomes.antt'  # where a crate has the theorems that its calls are determined
 
 
 def undetermined(tree, page, function):
     """What is wrong with the page's reason for a call, or nothing."""
-    lines = page.calls[function.name]
-    if 'not determined' in lines:
-        return '' if function.name in UNDETERMINED and 'determined' not in lines else 'it says "not determined"'
-    if 'determined' in lines:
-        law, crate, file = cited_law(lines)
-        if law and not file and 'the same promise' in lines['determined']:
-            return another_promise(tree, page, function, law)
-        return '' if file and law in laws(tree, f'crates/{crate or function.crate}/{file}') else 'its law is not there'
-    if not re.match(r'each (?:promise )?is an equation for the result\b', lines.get('all', '')):
+    parts = page.calls[function.name]
+    if 'not determined' in parts:
+        return '' if function.name in UNDETERMINED and 'determined' not in parts else 'it says "not determined"'
+    if 'determined' in parts:
+        theorem, file = cited_theorem(parts)
+        if theorem and not file and 'the same promise' in parts['determined']:
+            return another_promise(tree, page, function, theorem)
+        if theorem != own_theorem(function) or file != OUTCOMES:
+            return f'its theorem is not {own_theorem(function)} of {OUTCOMES}'
+        return '' if theorem in theorems(tree, f'crates/{function.crate}/{file}') else 'its theorem is not there'
+    if not re.match(r'each (?:promise )?is an equation for the result\b', parts.get('all', '')):
         return 'nothing is said'
     return '' if is_equation(function) else 'its promise is no equation for the result'
 
 
-def cited_law(lines):
-    """The law that a line "determined" begins with, and the crate and the file that it names."""
-    cited = re.match(r'`(one-[\w-]+)`(?: \((?:crates/(\w+)/)?(proofs/\w+\.antt)\))?', lines.get('determined', ''))
-    return cited.groups() if cited else (None, None, None)
+def own_theorem(function):
+    """The name of the theorem that a call is determined: the call's own, with hyphens."""
+    return f'one-{function.name.rpartition("::")[2].replace("_", "-")}'
 
 
-def laws(tree, path):
-    """The public laws of a proof file."""
+def cited_theorem(parts):
+    """The theorem that a part "Determined" begins with, and the file that it names."""
+    cited = re.match(r'`(one-[\w-]+)`(?: \(([^()]*)\))?', parts.get('determined', ''))
+    return cited.groups() if cited else (None, None)
+
+
+def theorems(tree, path):
+    """The public theorems of a proof file."""
     return re.findall(r'^ *pub ([\w-]+) :', tree.text(path), re.M) if (tree.top / path).exists() else []
 
 
-def another_promise(tree, page, function, law):
-    """What is wrong where a call is said to have the promise of another, which its line "promise" names: the two contracts are
-    the same word for word, their words mean the same, and the law is the other call's."""
+def another_promise(tree, page, function, theorem):
+    """What is wrong where a call is said to have the promise of another, which its part "Promise" names: the two contracts are
+    the same word for word, their words mean the same, and the theorem is the other call's."""
     named = re.search(r'\bthat of `([\w:]+)`', page.calls[function.name].get('promise', ''))
     other = tree.public.get(named.group(1)) if named else None
     if not other:
         return 'the call whose promise it has is not named'
-    if cited_law(page.calls.get(other.name, {}))[0] != law or undetermined(tree, page, other):
-        return f'{law} is not the law of {other.name}'
+    if cited_theorem(page.calls.get(other.name, {}))[0] != theorem or undetermined(tree, page, other):
+        return f'{theorem} is not the theorem of {other.name}'
     ours, theirs = (brought(source(one.file)) for one in (function, other))
     words = [word for text in function.promises() for word in WORD.findall(text)]
     same = function.promises() == other.promises() and all(ours.get(word) == theirs.get(word) for word in words)
@@ -132,12 +159,12 @@ def fields(function):
     return []
 
 
-# The C face hands on what the calls below it promise, of which each has two wrong programs of its own.
-C_FACE = 'gong'
+# The C door hands on what the calls below it promise, of which each has two wrong programs of its own.
+C_DOOR = 'gong'
 
 
 def wrong_programs(tree):
-    """docs/PROMISES.md names for each public call two wrong programs or more (one at the C face), its own and no other call's,
+    """docs/PROMISES.md names for each public call two wrong programs or more (one at the C door), its own and no other call's,
     each is an edit of its crate, and each edit that there is is named: a program's in the section "The programs" """
     page, faults = promises(tree), []
     for crate in tree.libraries:
@@ -145,7 +172,7 @@ def wrong_programs(tree):
         named = {}
         for name in (name for name, function in tree.public.items() if function.crate == crate.name):
             own = page.wrong_programs(name)
-            faults += [f'{name} names {len(set(own))}'] * (len(set(own)) < (1 if crate.name == C_FACE else 2))
+            faults += [f'{name} names {len(set(own))}'] * (len(set(own)) < (1 if crate.name == C_DOOR else 2))
             faults += [f'{name} names {edit}, which is not there' for edit in own if edit not in edits]
             faults += [f'{name} names {edit}, and so does {named[edit]}' for edit in own if edit in named]
             named |= {edit: name for edit in own}
@@ -168,10 +195,51 @@ def telling_edits(tree):
 
 
 def one_table(tree):
-    """include/gong.h has the numbers of crates/numbers/src/table.rt, by the same names"""
-    table = re.findall(r'pub const (\w+): u8 = (\d+);', source(tree.top / 'crates/numbers/src/table.rt'))
+    """include/gong.h has the numbers of crates/answers/src/table.rt, by the same names, and a text for each"""
+    table = re.findall(r'pub const (\w+): u8 = (\d+);', source(tree.top / 'crates/answers/src/table.rt'))
     header = re.findall(r'\bGONG_(\w+) = (\d+)', tree.text('include/gong.h'))
-    return [] if table and table == header else [f'{sorted(set(table) ^ set(header))}']
+    same = table and table == header
+    return wrong_texts(tree, {int(number) for _, number in table}) if same else [f'{sorted(set(table) ^ set(header))}']
+
+
+def wrong_texts(tree, numbers):
+    """What is wrong with the header's texts: from 0 to the last number each has one that no other has; a number that is not given
+    has the text "not given"."""
+    texts = re.findall(r'"([^"]*)"', macro(tree, 'GONG_TEXTS') or '')
+    wrong = [f'there are {len(texts)} texts'] * (len(texts) != max(numbers) + 1)
+    wrong += [f'GONG_NUMBERS is {one}' for one in [macro(tree, 'GONG_NUMBERS')] if one != str(max(numbers) + 1)]
+    wrong += [f'the text of {number} is {text!r}' for number, text in enumerate(texts)
+              if not text.strip() or (text == NOT_GIVEN) == (number in numbers) or text != NOT_GIVEN and texts.count(text) > 1]
+    return wrong
+
+
+NOT_GIVEN = 'not given'
+
+
+def macro(tree, name):
+    """What the header defines a name as, in one line: None, unless it does so once."""
+    lines = re.sub(r'\s*\\\n\s*', ' ', tree.text('include/gong.h'))
+    found = re.findall(rf'^#define {name} +(.*?) *(?:/[*/].*)?$', lines, re.M)
+    return found[0] if len(found) == 1 else None
+
+
+def one_version(tree):
+    """include/gong.h says its version once: the numbers and the text agree"""
+    numbers = [macro(tree, f'GONG_VERSION_{part}') for part in ('MAJOR', 'MINOR', 'PATCH')]
+    text = macro(tree, 'GONG_VERSION_TEXT')
+    agree = all(number and number.isdigit() for number in numbers) and text == f'"{".".join(map(str, numbers))}"'
+    return [] if agree else [f'the numbers {numbers}, the text {text}']
+
+
+# The bounds that a C caller needs, by the names that the header has for them.
+BOUNDS = {'GONG_MOST_SIDE': 1024, 'GONG_MOST_PIXELS': 1048576, 'GONG_HISTOGRAM': 256, 'GONG_SAMPLE_LEVEL': 67108864}
+
+
+def one_bound(tree):
+    """include/gong.h has the bounds that a caller needs, and GONG_SCAN is the LENGTH of crates/memory/src/lib.rt"""
+    length = re.findall(r'pub const LENGTH: usize = (\w+);', source(tree.top / 'crates/memory/src/lib.rt'))
+    bounds = BOUNDS | {'GONG_SCAN': int(length[0])}
+    return [f'{name} is {macro(tree, name)} and not {bound}' for name, bound in bounds.items() if macro(tree, name) != str(bound)]
 
 
 C_TYPES = {'u8': 'uint8_t', 'u16': 'uint16_t', 'u32': 'uint32_t', 'u64': 'uint64_t', 'i64': 'int64_t', 'usize': 'size_t'}
@@ -186,7 +254,7 @@ def c_parameter(name, kind):
     return f'{pointer}, size_t {name}_len' if slice_of else pointer
 
 
-def prototype(head):
+def declaration(head):
     """The C declaration of an exported function, from its text in the Rattle source."""
     name, parameters, result = re.search(r'fn (\w+)\(([^)]*)\) -> (\w+)', head).groups()
     pairs = [part.split(':') for part in parameters.split(',') if part.strip()]
@@ -195,7 +263,7 @@ def prototype(head):
 
 def declared(tree):
     """include/gong.h declares the functions of the crate gong with their types, and no others"""
-    made = {prototype(function.head) for function in tree.public.values() if function.crate == 'gong'}
+    made = {declaration(function.head) for function in tree.public.values() if function.crate == 'gong'}
     header = re.findall(r'^\w+ gong_\w+\([^)]*\);', tree.text('include/gong.h'), re.M)
     return sorted(made ^ {re.sub(r'\s+', ' ', text) for text in header})
 
@@ -205,7 +273,7 @@ def readme(tree):
     text = tree.text('README.md')
     sample = re.search(r'^    rt check gongspindle && target/bin/gongspindle < (\S+)$', text, re.M).group(1)
     request = re.search(r'^    (printf .*) \| target/bin/calls$', text, re.M).group(1)
-    shown = [f'second/program.py gongspindle < {sample}', f'{request} | second/program.py calls']
+    shown = [f'second/first.py gongspindle < {sample}', f'{request} | second/first.py calls']
     said = [subprocess.run(words, shell=True, cwd=tree.top, capture_output=True, text=True).stdout for words in shown]
     return [words for words, lines in zip(shown, said)
             if not lines or ''.join(f'    {line}\n' for line in lines.splitlines()) not in text]
@@ -256,8 +324,45 @@ def small_rooms(tree):
             if len(path.read_text(encoding='utf-8').splitlines()) > 400]
 
 
-RULES = (layout, no_requires, has_ensures, promised, determined, wrong_programs, telling_edits, one_table, declared, readme,
-         contract_alone, small_rooms)
+def short_notes(tree):
+    """no landing note has more than 25 lines"""
+    return [str(path.relative_to(tree.top)) for path in sorted(tree.top.glob('docs/landings/*.md'))
+            if len(path.read_text(encoding='utf-8').splitlines()) > 25]
+
+
+# Words of what is not in the repository, and a name that is no longer used, in upper or lower case.
+FOREIGN = re.compile(r"""
+    \bdesign\.md | \.\./shared | (?<![\w.])/work/ | \bprototyp | \bnative-bench | \binterface\.md | \bfixed\ interface
+    | \bits\ brief\b | \blater\ request | \boutside\ the\ repository | \bopen-points | \bproof-notes | \bthe\ issue\b
+    | \bissue\ names | \bissues\b | \bsessions?\b | \bhelper\ agent | \bdocument\ 90\b | \bc\ face\b
+""", re.X | re.I)
+# What the rule looks through: not what the planted faults write, which must have these words.
+PAGES = ('README.md', 'crates.txt', 'docs/**/*.md', 'include/*.h', 'examples/**/*', 'bench/**/*', 'second/**/*', 'crates/**/*.rt',
+         'crates/**/*.antt', 'crates/**/must-fail/*.edit', '.ci/*')
+SKIPPED = 'target', '__pycache__'
+LINE_BREAK = re.compile(r'[ \t]*\n[ \t]*(?:(?://|--|[#*])[ \t]*)?')
+
+
+def own_words(tree):
+    """no page or source of the repository speaks of what is not in it"""
+    paths = {path for pattern in PAGES for path in tree.top.glob(pattern) if path.is_file() and path.name != 'planted.py'}
+    return [f'{path.relative_to(tree.top)}: {words}' for path in sorted(paths)
+            if not set(SKIPPED) & set(path.relative_to(tree.top).parts) for words in foreign(path, path.stat().st_mtime_ns)]
+
+
+@cache
+def foreign(path, _changed):
+    """The words of a file that are none of the repository's own, in a text with its lines joined, without the comment marks before
+    them, and without the rule's own list; of what is no text, none. A file that has not changed is read once."""
+    try:
+        text = path.read_text(encoding='utf-8').replace(FOREIGN.pattern, '')
+    except UnicodeDecodeError:
+        return ()
+    return tuple(found.group() for found in FOREIGN.finditer(LINE_BREAK.sub(' ', text)))
+
+
+RULES = (layout, no_requires, has_ensures, promised, determined, wrong_programs, telling_edits, one_table, one_version, one_bound,
+         declared, readme, contract_alone, small_rooms, short_notes, own_words)
 
 
 def broken(rule, tree):

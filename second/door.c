@@ -1,5 +1,5 @@
 /* The C library driven from standard input, as the program `calls` drives the library below it: the
- * same requests, the same lines (wire.py has both). So the comparison holds the C face to the second
+ * same requests, the same lines (wire.py has both). So the comparison holds the C door to the second
  * program on any machine that can run x86-64 code, in an emulator too.
  *
  * Beyond what `calls` can see it looks for what only C can get wrong: an answer that is not written

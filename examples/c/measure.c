@@ -23,8 +23,9 @@ static void draw(uint8_t *levels, int noise)
 
 int main(void)
 {
-    /* no noise at all: discarded by 8; a little: measured, ratio 29.63; too much: discarded by 9 */
+    /* no noise at all: GONG_NO_NOISE; a little: measured, ratio 29.63; too much: GONG_LOW_RATIO */
     const int noises[] = {0, 9, 50};
+    static const char *const texts[GONG_NUMBERS] = GONG_TEXTS;
     uint8_t levels[PIXELS];
     uint16_t output[PIXELS], work[PIXELS];
     uint64_t ratio;
@@ -34,6 +35,7 @@ int main(void)
         draw(levels, noises[k]);
         number = gong_measure(levels, PIXELS, SIDE, SIDE, output, PIXELS, work, PIXELS, &ratio);
         printf("noise %d: number %d, ratio %" PRIu64 "\n", noises[k], number, ratio);
+        if (number != GONG_DONE) fprintf(stderr, "discarded: %s\n", texts[number]);
     }
 
     /* the judge by itself: N, M, m and D of a picture that was measured elsewhere */

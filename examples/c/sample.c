@@ -22,7 +22,7 @@ static void show(int64_t x)
     uint8_t number = gong_sample(levels, PIXELS, WIDTH, HEIGHT, x, 24, &value);
 
     printf("x %" PRId64 ": number %d, value %" PRId64, x, number, value);
-    if (number == GONG_DONE) printf(", %.4f levels", (double)value / 67108864);
+    if (number == GONG_DONE) printf(", %.4f levels", (double)value / GONG_SAMPLE_LEVEL);
     putchar('\n');
 }
 
@@ -33,6 +33,6 @@ int main(void)
     /* from pixel 1, the last dark one, to pixel 2, the first bright one */
     for (int64_t x = 16; x <= 32; x += 4) show(x);
     show(48);
-    show(64); /* pixel 4 has only one after it: refused by 13 */
+    show(64); /* pixel 4 has only one after it: GONG_PLACE_OUTSIDE */
     return 0;
 }

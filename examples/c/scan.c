@@ -13,8 +13,7 @@
 
 #include "gong.h"
 
-#define WIDEST 1024
-#define ROOM (3 * WIDEST) /* a call with one row gives out one at most, and the end the last three */
+#define ROOM (3 * GONG_MOST_SIDE) /* a call with one row gives out one at most, and the end the last three */
 
 /* What a call gives back: each value is in eighths of a level, so 104 is level 13. */
 static void show(const char *call, int number, uint64_t rows, const uint16_t *output, size_t width)
@@ -29,8 +28,9 @@ static void show(const char *call, int number, uint64_t rows, const uint16_t *ou
 
 int main(void)
 {
+    static const char *const texts[GONG_NUMBERS] = GONG_TEXTS;
     static uint16_t held[GONG_SCAN]; /* the scan: all that is kept from one call to the next */
-    static uint8_t levels[WIDEST];
+    static uint8_t levels[GONG_MOST_SIDE];
     static uint16_t output[ROOM];
     size_t width, height;
     unsigned brightest;
@@ -41,7 +41,10 @@ int main(void)
     if (scanf("P5 %4zu %4zu %3u%c", &width, &height, &brightest, &blank) != 4 || brightest != 255) return 1;
     number = gong_scan_start(held, GONG_SCAN, width, height);
     printf("start: number %d\n", number);
-    if (number != GONG_DONE) return 1;
+    if (number != GONG_DONE) {
+        fprintf(stderr, "refused: %s\n", texts[number]);
+        return 1;
+    }
 
     /* the first row comes out with the fourth that goes in, since it needs three rows below it */
     while (fread(levels, 1, width, stdin) == width) {
@@ -49,7 +52,7 @@ int main(void)
         show("row", number, rows, output, width);
     }
 
-    /* one row too many: refused by 21, and the scan goes on as if it had not come */
+    /* one row too many: GONG_ROWS_BEYOND, and the scan goes on as if it had not come */
     number = gong_scan_rows(held, GONG_SCAN, levels, width, output, ROOM, &rows);
     show("row", number, rows, output, width);
 

@@ -7,9 +7,9 @@ use Prim.Native.Nat.{ℕ, _+_, _-_, _*_, _/_, _%_, _≤_, min}
 use native.Mathlib.Decide.{ℕ-discrete}
 use native.Mathlib.Omega.{arith}
 use lib.ListN.{length, drop}
-use Rattle.numbers.specs.Lists.{AtMost}
-use Rattle.numbers.specs.Refusals.{Unless}
-use Rattle.numbers.proofs.Refusals.{past, carried, together, alike}
+use Rattle.arithmetic.specs.Lists.{AtMost}
+use Rattle.answers.specs.Refusals.{Unless}
+use Rattle.answers.proofs.Refusals.{past, carried, together, alike}
 use Rattle.picture.specs.Picture.{Side}
 use Rattle.memory.specs.Memory.{rowAt, widthOf, heightOf, cameOf, rowsOf, memory, zeros, Begun, StartIs}
 use Rattle.memory.proofs.Memories.{rows-of-memory, length-zeros}
@@ -23,8 +23,8 @@ use Rattle.beam.proofs.Grouping.{refused-keeps}
 -- what can be told from a memory of 16-bit numbers
 pub record View (w h k : ℕ) (q : Held) (held : List ℕ) : Type 0 where
   pub begun : Begun held
-  pub wide : widthOf held ≡ w
-  pub high : heightOf held ≡ h
+  pub width : widthOf held ≡ w
+  pub height : heightOf held ≡ h
   pub came : cameOf held ≡ k
   pub few : k ≤ 65535
   pub holds : heldIn w h k (rowsOf held) ≡ q
@@ -43,8 +43,8 @@ in-view : (P : ℕ → ℕ → ℕ → Held → Type 0) {w h k : ℕ} {q : Held}
 in-view P {w} {h} {k} {q} {held} v p =
     subst (P w h k) (v .holds)
     (subst (λ (c : ℕ). P w h c (heldIn w h c (rowsOf held))) (v .came)
-    (subst (λ (b : ℕ). P w b (cameOf held) (heldIn w b (cameOf held) (rowsOf held))) (v .high)
-    (subst (λ (a : ℕ). P a (heightOf held) (cameOf held) (heldIn a (heightOf held) (cameOf held) (rowsOf held))) (v .wide) p)))
+    (subst (λ (b : ℕ). P w b (cameOf held) (heldIn w b (cameOf held) (rowsOf held))) (v .height)
+    (subst (λ (a : ℕ). P a (heightOf held) (cameOf held) (heldIn a (heightOf held) (cameOf held) (rowsOf held))) (v .width) p)))
 
 -- ---- the answers, from the view alone
 abbrev answer : ℕ → ℕ → List ℕ → Seen
@@ -82,10 +82,10 @@ end-own held output r begun d = carried see (carried see see) (past begun d)
 zeros-view : (w h k : ℕ) (past : List ℕ) → Side w → Side h → k ≤ 65535
     → View w h k (heldIn w h k (zeros 6144)) (memory w h k (zeros 6144) past)
 unfolding memory
-zeros-view w h k past wide high few = record {
-  begun = begun-zeros w h k past wide high;
-  wide = refl;
-  high = refl;
+zeros-view w h k past width height few = record {
+  begun = begun-zeros w h k past width height;
+  width = refl;
+  height = refl;
   came = refl;
   few = few;
   holds = ap (heldIn w h k) (rows-of-memory w h k (zeros 6144) past (length-zeros 6144));
@@ -99,10 +99,10 @@ unfolding memory
 rows-view held levels output r few bytes came =
     subst (View _ _ _ _) (sym (left-is held levels output r few bytes came)) (record {
       begun = left-begun held levels output r few bytes came;
-      wide = refl;
-      high = refl;
+      width = refl;
+      height = refl;
       came = refl;
-      few = let within = came .within in let high = came .begun .high .1 in omega (arith, within, high, few);
+      few = let within = came .within in let height = came .begun .height .1 in omega (arith, within, height, few);
       holds = left-held held levels output r few bytes came;
     })
 
@@ -117,10 +117,10 @@ end-view : (held output : List ℕ) (r : Scanned) → Finished held output r
     → View (widthOf held) (heightOf held) (heightOf held + 3)
     (heldIn (widthOf held) (heightOf held) (heightOf held + 3) (zeros 6144)) (r .held)
 end-view held output r done =
-    let high = done .begun .high in
-    let few : heightOf held + 3 ≤ 65535 = let most = high .1 in omega (arith, most) in
+    let height = done .begun .height in
+    let few : heightOf held + 3 ≤ 65535 = let most = height .1 in omega (arith, most) in
     subst (View _ _ _ _) (sym (done .held-is))
-    (zeros-view (widthOf held) (heightOf held) (heightOf held + 3) (drop 6147 held) (done .begun .wide) high few)
+    (zeros-view (widthOf held) (heightOf held) (heightOf held + 3) (drop 6147 held) (done .begun .width) height few)
 
 end-then : {w h k : ℕ} {q : Held} (held output : List ℕ) (r : Scanned) → View w h k q held → r .number ≡ 0 → EndIs held output r
     → View w h (h + 3) (heldIn w h (h + 3) (zeros 6144)) (r .held)
@@ -131,7 +131,7 @@ end-then held output r v z d =
 start-then : (held : List ℕ) (w h n : ℕ) (left : List ℕ) → n ≡ 0 → StartIs held w h n left → View w h 0 (heldIn w h 0 (zeros 6144)) left
 start-then held w h n left z d =
     let s = start-done held left w h n z d in
-    subst (View _ _ _ _) (sym (s .left-is)) (zeros-view w h 0 (drop 6147 held) (s .wide) (s .high) (omega arith))
+    subst (View _ _ _ _) (sym (s .left-is)) (zeros-view w h 0 (drop 6147 held) (s .width) (s .height) (omega arith))
 
 -- ---- one call on each
 one-seen : (one other : List ℕ) (c : Call) (r r' : Scanned) → Same one other → CallIs one c r → CallIs other c r' → seen r ≡ seen r'

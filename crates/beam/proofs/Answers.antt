@@ -6,8 +6,8 @@ use Prim.Native.Nat.{ℕ, _+_, _-_, _*_, _/_, _%_, _≤_, min}
 use native.Mathlib.Omega.{arith}
 use lib.ListN.{length, take, drop}
 use lib.Seq.{take-at}
-use Rattle.numbers.specs.Lists.{AtMost}
-use Rattle.numbers.proofs.Lists.{most-equal, most-slice}
+use Rattle.arithmetic.specs.Lists.{AtMost}
+use Rattle.arithmetic.proofs.Lists.{most-equal, most-slice}
 use Rattle.picture.specs.Picture.{Side}
 use Rattle.memory.specs.Memory.{rowAt, widthOf, heightOf, cameOf, rowsOf, memory, zeros, twoOf, Ranges, Begun, StartIs}
 use Rattle.memory.proofs.Memories.{length-rows, rows-of-memory, length-memory, length-zeros}
@@ -23,13 +23,13 @@ start-refused held left w h n some (inl out) = out .1 .1
 start-refused held left w h n some (inr is) = absurd (some (is .1 .0))
 
 pub record Started (held left : List ℕ) (w h : ℕ) : Type 0 where
-  pub wide : Side w
-  pub high : Side h
+  pub width : Side w
+  pub height : Side h
   pub left-is : left ≡ memory w h 0 (zeros 6144) (drop 6147 held)
 
 pub start-done : (held left : List ℕ) (w h n : ℕ) → n ≡ 0 → StartIs held w h n left → Started held left w h
 start-done held left w h n z (inl out) = absurd (let one = out .1 .0 in let no-way : ⊥ = omega (arith, z, one) in no-way)
-start-done held left w h n z (inr is) = record { wide = is .0 .1; high = is .0 .2; left-is = is .1 .1 }
+start-done held left w h n z (inr is) = record { width = is .0 .1; height = is .0 .2; left-is = is .1 .1 }
 
 -- ---- rows
 refused-with : {r : Scanned} {n : ℕ} {held output : List ℕ} → r ≡ scanned n 0 held output → r .held ≡ held
@@ -110,12 +110,12 @@ zero-ranges w n = record { levels = small 255 0; halves = small 510 1; quarters 
 
 pub begun-zeros : (w h k : ℕ) (past : List ℕ) → Side w → Side h → Begun (memory w h k (zeros 6144) past)
 unfolding memory
-begun-zeros w h k past wide high =
+begun-zeros w h k past width height =
     let rows = rows-of-memory w h k (zeros 6144) past (length-zeros 6144) in
     record {
       long = length-memory w h k (zeros 6144) past (length-zeros 6144);
-      wide = wide;
-      high = high;
+      width = width;
+      height = height;
       ranges = subst (Ranges w) (sym rows) (zero-ranges w 6144);
     }
 
@@ -141,7 +141,7 @@ module _ (held levels output : List ℕ) (r : Scanned) (few : cameOf held ≤ 65
   fit = rows-fit held (came .begun) levels output bytes few (came .whole) (came .within)
 
   short : k + n ≤ 70000
-  short = let high = came .begun .high .1 in let within = came .within in omega (arith, high, within, few)
+  short = let height = came .begun .height .1 in let within = came .within in omega (arith, height, within, few)
 
   then : Ready w h (k + n) (later w h k rows (rowAt w levels) n)
       × (heldIn w h (k + n) (later w h k rows (rowAt w levels) n) ≡ after (heldIn w h k rows) (rowAt w levels) n)
@@ -164,8 +164,8 @@ module _ (held levels output : List ℕ) (r : Scanned) (few : cameOf held ≤ 65
   unfolding memory
   left-begun = record {
     long = length-memory w h (k + n) (later w h k rows (rowAt w levels) n) (drop 6147 held) rows-long;
-    wide = came .begun .wide;
-    high = came .begun .high;
+    width = came .begun .width;
+    height = came .begun .height;
     ranges = subst (Ranges w) (sym left-rows) (then .0 .ranges);
   }
 

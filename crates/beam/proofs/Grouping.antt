@@ -10,10 +10,10 @@ use native.Mathlib.Omega.{arith}
 use borrow.Author.Tests.{eq-eqb, ne-eqb}
 use lib.ListN.{length, take, drop, length-append}
 use lib.Seq.{take-at}
-use Rattle.numbers.specs.Lists.{AtMost, joined}
-use Rattle.numbers.proofs.Lists.{no-elements}
+use Rattle.arithmetic.specs.Lists.{AtMost, joined}
+use Rattle.arithmetic.proofs.Lists.{no-elements}
 use Rattle.picture.specs.Picture.{Side}
-use Rattle.filter.specs.Filter.{eighths}
+use Rattle.filter.specs.Filter.{passThree}
 use Rattle.memory.specs.Memory.{rowAt, widthOf, heightOf, cameOf, rowsOf, memory, zeros, Begun}
 use Rattle.scan.specs.Ring.{shown, lastTwo, heldIn, later}
 use Rattle.scan.specs.Held.{Held, nothing, after, given, noRow}
@@ -30,8 +30,8 @@ use Rattle.beam.proofs.Answers.{begun-zeros, left-is, left-begun, left-
 -- k rows have come since a good start, the levels x, and their rows g were given out
 pub record Running (w h : ℕ) (x g held : List ℕ) : Type 0 where
   pub begun : Begun held
-  pub wide : widthOf held ≡ w
-  pub high : heightOf held ≡ h
+  pub width : widthOf held ≡ w
+  pub height : heightOf held ≡ h
   pub few : cameOf held ≤ h
   pub long : length x ≡ cameOf held * w
   pub holds : heldIn w h (cameOf held) (rowsOf held) ≡ after nothing (rowAt w x) (cameOf held)
@@ -41,11 +41,11 @@ pub record Running (w h : ℕ) (x g held : List ℕ) : Type 0 where
 -- the end was given: the levels are those of a picture, and all its rows were given out
 pub record Ended (w h : ℕ) (x g held : List ℕ) : Type 0 where
   pub begun : Begun held
-  pub wide : widthOf held ≡ w
-  pub high : heightOf held ≡ h
+  pub width : widthOf held ≡ w
+  pub height : heightOf held ≡ h
   pub past : cameOf held ≡ h + 3
   pub picture : length x ≡ w * h
-  pub whole : g ≡ eighths w h x
+  pub whole : g ≡ passThree w h x
 
 -- what is true at a memory's own sides is true at sides that are equal to them
 at-sides : (P : ℕ → ℕ → Type 0) {a b w h : ℕ} → a ≡ w → b ≡ h → P a b → P w h
@@ -58,10 +58,10 @@ nothing-held w h rows = refl
 
 begins : (w h : ℕ) (past : List ℕ) → Side w → Side h → Running w h [] [] (memory w h 0 (zeros 6144) past)
 unfolding memory after given joined
-begins w h past wide high = record {
-  begun = begun-zeros w h 0 past wide high;
-  wide = refl;
-  high = refl;
+begins w h past width height = record {
+  begun = begun-zeros w h 0 past width height;
+  width = refl;
+  height = refl;
   few = zero-le;
   long = sym (zero-mul w);
   holds = nothing-held w h _;
@@ -87,7 +87,7 @@ module _ (held x g output : List ℕ) (r : Scanned) where
 
     module _ (so-far : Running w h x g held) where
       few : k ≤ 65535
-      few = let high = came .begun .high .1 in let l = so-far .few in omega (arith, high, l)
+      few = let height = came .begun .height .1 in let l = so-far .few in omega (arith, height, l)
 
       in-reach : k + n ≤ h
       in-reach = let within = came .within in let l = so-far .few in omega (arith, within, l)
@@ -108,8 +108,8 @@ module _ (held x g output : List ℕ) (r : Scanned) where
       unfolding memory
       then = record {
         begun = left-begun held levels output r few bytes came;
-        wide = refl;
-        high = refl;
+        width = refl;
+        height = refl;
         few = in-reach;
         long =
             let a = so-far .long in
@@ -129,7 +129,7 @@ module _ (held x g output : List ℕ) (r : Scanned) where
     -- past the end there are none
     module _ (over : Ended w h x g held) where
       few-past : k ≤ 65535
-      few-past = let high = came .begun .high .1 in let p = over .past in omega (arith, high, p)
+      few-past = let height = came .begun .height .1 in let p = over .past in omega (arith, height, p)
 
       no-rows : n ≡ 0
       no-rows = let within = came .within in let p = over .past in omega (arith, within, p)
@@ -150,8 +150,8 @@ module _ (held x g output : List ℕ) (r : Scanned) where
       unfolding memory
       then-past = record {
         begun = left-begun held levels output r few-past bytes came;
-        wide = refl;
-        high = refl;
+        width = refl;
+        height = refl;
         past = let p = over .past in omega (arith, p, no-rows);
         picture = rw (no-levels, append-nil x) (over .picture);
         whole = rw (no-levels, none-given, append-nil x, append-nil g) (over .whole);
@@ -174,7 +174,7 @@ module _ (held x g output : List ℕ) (r : Scanned) where
           ∙ ap (λ (q : Held). given q noRow 3) (so-far .holds)
           ∙ given-same (after nothing (rowAt w x) k) noRow (rowAt w []) 3 (λ i p. sym (no-row w i))
 
-      all-rows : g ++ givenOut w r ≡ eighths w h x
+      all-rows : g ++ givenOut w r ≡ passThree w h x
       all-rows =
           rw (last-rows, so-far .gave-all) (sym (given-more w k x [] (so-far .long) nothing 3))
           ∙ ap (λ (z : List ℕ). given nothing (rowAt w z) (k + 3)) (append-nil x)
@@ -184,9 +184,9 @@ module _ (held x g output : List ℕ) (r : Scanned) where
       then-ended : Ended w h x (g ++ givenOut w r) (memory w h (h + 3) (zeros 6144) (drop 6147 held))
       unfolding memory
       then-ended = record {
-        begun = begun-zeros w h (h + 3) (drop 6147 held) (done .begun .wide) (done .begun .high);
-        wide = refl;
-        high = refl;
+        begun = begun-zeros w h (h + 3) (drop 6147 held) (done .begun .width) (done .begun .height);
+        width = refl;
+        height = refl;
         past = refl;
         picture = is-picture;
         whole = all-rows;
@@ -211,20 +211,20 @@ means-done : (t : Told) (held : List ℕ) (c : Call) (r : Scanned) → Means t h
     → Means (tellDone t c r) (r .held)
 means-done t held (start-call w h) r m z is =
     let s = start-done held (r .held) w h (r .number) z (is .0) in
-    subst (Running w h [] []) (sym (s .left-is)) (begins w h (drop 6147 held) (s .wide) (s .high))
+    subst (Running w h [] []) (sym (s .left-is)) (begins w h (drop 6147 held) (s .width) (s .height))
 means-done told-nothing held (rows-call levels output) r m z is = tt
 means-done (since w h x g false) held (rows-call levels output) r m z is =
-    at-sides (λ a b. Running a b x g held → Running a b (x ++ levels) (g ++ givenOut a r) (r .held)) (m .wide) (m .high)
+    at-sides (λ a b. Running a b x g held → Running a b (x ++ levels) (g ++ givenOut a r) (r .held)) (m .width) (m .height)
     (runs-on held x g output r levels (is .0) (rows-done held levels output r z (is .1))) m
 means-done (since w h x g true) held (rows-call levels output) r m z is =
-    at-sides (λ a b. Ended a b x g held → Ended a b (x ++ levels) (g ++ givenOut a r) (r .held)) (m .wide) (m .high)
+    at-sides (λ a b. Ended a b x g held → Ended a b (x ++ levels) (g ++ givenOut a r) (r .held)) (m .width) (m .height)
     (stays-ended held x g output r levels (is .0) (rows-done held levels output r z (is .1))) m
 means-done told-nothing held (end-call output) r m z is = tt
 means-done (since w h x g false) held (end-call output) r m z is =
-    at-sides (λ a b. Running a b x g held → Ended a b x (g ++ givenOut a r) (r .held)) (m .wide) (m .high)
+    at-sides (λ a b. Running a b x g held → Ended a b x (g ++ givenOut a r) (r .held)) (m .width) (m .height)
     (ends held x g output r (end-done held output r z is)) m
 means-done (since w h x g true) held (end-call output) r m z is =
-    absurd (at-sides (λ a b. Ended a b x g held → ⊥) (m .wide) (m .high) (no-second held x g output r (end-done held output r z is)) m)
+    absurd (at-sides (λ a b. Ended a b x g held → ⊥) (m .width) (m .height) (no-second held x g output r (end-done held output r z is)) m)
 
 -- "A refused call changes nothing held."
 pub refused-keeps : (held : List ℕ) (c : Call) (r : Scanned) → r .number ≢ 0 → CallIs held c r → r .held ≡ held
@@ -252,28 +252,28 @@ means t held (one ∷ ms) m calls =
 module _ (held : List ℕ) (ms : List Made) (w h : ℕ) (x g : List ℕ) (calls : Calls held ms) where
   -- once the end was given since the last good start, the levels taken together are a picture, and all rows given out together are the
   -- whole filter's output
-  pub rows-whole : told told-nothing ms ≡ since w h x g true → (length x ≡ w * h) × (g ≡ eighths w h x)
+  pub rows-whole : told told-nothing ms ≡ since w h x g true → (length x ≡ w * h) × (g ≡ passThree w h x)
   rows-whole is =
       let over : Ended w h x g (leftBy held ms) = subst (λ (t : Told). Means t (leftBy held ms)) is (means told-nothing held ms tt calls) in
       (over .picture, over .whole)
 
   -- before that, after k rows, the rows given out together are the first k − 3 of it, whatever rows y follow
   pub rows-so-far : told told-nothing ms ≡ since w h x g false
-      → (k : ℕ) × (k ≤ h) × (length x ≡ k * w) × ((y : List ℕ) → length (x ++ y) ≡ w * h → g ≡ take ((k - 3) * w) (eighths w h (x ++ y)))
+      → (k : ℕ) × (k ≤ h) × (length x ≡ k * w) × ((y : List ℕ) → length (x ++ y) ≡ w * h → g ≡ take ((k - 3) * w) (passThree w h (x ++ y)))
   rows-so-far is =
       let so-far : Running w h x g (leftBy held ms) =
       subst (λ (t : Told). Means t (leftBy held ms)) is (means told-nothing held ms tt calls) in
       (cameOf (leftBy held ms), so-far .few, so-far .long, λ y l. first-rows so-far y l)
     where
       first-rows : Running w h x g (leftBy held ms) → (y : List ℕ) → length (x ++ y) ≡ w * h
-          → g ≡ take ((cameOf (leftBy held ms) - 3) * w) (eighths w h (x ++ y))
+          → g ≡ take ((cameOf (leftBy held ms) - 3) * w) (passThree w h (x ++ y))
       first-rows so-far y l =
           let k = cameOf (leftBy held ms) in
           let few = so-far .few in
           let e : k + (h + 3 - k) ≡ h + 3 = omega (arith, few) in
           let others = given (after nothing (rowAt w (x ++ y)) k) (λ i. rowAt w (x ++ y) (k + i)) (h + 3 - k) in
           let front = given-same nothing (rowAt w (x ++ y)) (rowAt w x) k (row-front w k x y (so-far .long)) in
-          let all : eighths w h (x ++ y) ≡ g ++ others =
+          let all : passThree w h (x ++ y) ≡ g ++ others =
           sym (rows-give w h (x ++ y) l)
           ∙ ap (given nothing (rowAt w (x ++ y))) (sym e)
           ∙ given-add nothing (rowAt w (x ++ y)) k (h + 3 - k)

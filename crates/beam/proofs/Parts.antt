@@ -6,7 +6,7 @@ use native.Mathlib.Nat.{add-zero, add-suc, suc-mul, add-mul, mul-le-mul-right}
 use native.Mathlib.Omega.{arith}
 use lib.ListN.{length, take}
 use lib.Seq.{take-append-le, take-append-add, drop-append-add, take-nil, drop-nil}
-use Rattle.numbers.specs.Lists.{joined}
+use Rattle.arithmetic.specs.Lists.{joined}
 use Rattle.memory.specs.Memory.{rowAt}
 use Rattle.scan.specs.Held.{Held, after, given, noRow}
 

@@ -7,15 +7,15 @@ use native.Mathlib.Decide.{decLt}
 use native.Mathlib.Omega.{arith}
 use lib.ListN.{length, take, drop, length-append, length-take, length-drop, drop-of-length-le}
 use lib.Seq.{drop-nil, take-append-le, take-all, drop-at}
-use Rattle.numbers.specs.Lists.{joined}
-use Rattle.numbers.proofs.Order.{row-end}
-use Rattle.numbers.proofs.Lists.{length-joined, joined-same}
+use Rattle.arithmetic.specs.Lists.{joined}
+use Rattle.arithmetic.proofs.Order.{row-end}
+use Rattle.arithmetic.proofs.Lists.{length-joined, joined-same}
 use Rattle.filter.specs.Median.{rowOf, passRow, pass}
-use Rattle.filter.specs.Filter.{halves, quarters, eighths}
+use Rattle.filter.specs.Filter.{passOne, passTwo, passThree}
 use Rattle.filter.proofs.Blocks.{length-row}
 use Rattle.filter.proofs.Drawn.{length-pass}
 use Rattle.memory.specs.Memory.{rowAt}
-use Rattle.scan.specs.Held.{Two, Held, completed, followed, nothing, halvesRow, quartersRow, eighthsRow, step, after, given}
+use Rattle.scan.specs.Held.{Two, Held, completed, followed, nothing, passOneRow, passTwoRow, passThreeRow, step, after, given}
 
 -- ---- rows f 0, f 1, .., one after the other
 -- the same, one later: before the first there is none
@@ -65,16 +65,16 @@ module _ (f : ℕ → List ℕ) where
   unfoldable pub held : ℕ → Held
   held k = record { levels = twoBefore f k; halves = twoBefore ones k; quarters = twoBefore twos k }
 
-  halves-is : (k : ℕ) → halvesRow (held k) (f k) ≡ ones k
-  unfolding halvesRow held
+  halves-is : (k : ℕ) → passOneRow (held k) (f k) ≡ ones k
+  unfolding passOneRow held
   halves-is k = completes f k
 
-  quarters-is : (k : ℕ) → quartersRow (held k) (f k) ≡ twos k
-  unfolding quartersRow held
+  quarters-is : (k : ℕ) → passTwoRow (held k) (f k) ≡ twos k
+  unfolding passTwoRow held
   quarters-is k = ap (completed (twoBefore ones k)) (halves-is k) ∙ completes ones k
 
-  eighths-is : (k : ℕ) → eighthsRow (held k) (f k) ≡ threes k
-  unfolding eighthsRow held
+  eighths-is : (k : ℕ) → passThreeRow (held k) (f k) ≡ threes k
+  unfolding passThreeRow held
   eighths-is k = ap (completed (twoBefore twos k)) (quarters-is k) ∙ completes twos k
 
   step-is : (k : ℕ) → step (held k) (f k) ≡ held (suc k)
@@ -107,8 +107,8 @@ joined-delayed (suc n) f = ap (λ (l : List ℕ). l ++ f n) (joined-delayed n f)
 given-is : (f : ℕ → List ℕ) (n : ℕ) → given nothing f (suc (suc (suc n))) ≡ joined n (passed (passed (passed f)))
 unfolding given
 given-is f n =
-    joined-same (suc (suc (suc n))) (λ i. eighthsRow (after nothing f i) (f i)) (delayed (delayed (delayed (passed (passed (passed f))))))
-    (λ i. ap (λ (m : Held). eighthsRow m (f i)) (after-is f i) ∙ eighths-is f i ∙ threes-are f i)
+    joined-same (suc (suc (suc n))) (λ i. passThreeRow (after nothing f i) (f i)) (delayed (delayed (delayed (passed (passed (passed f))))))
+    (λ i. ap (λ (m : Held). passThreeRow m (f i)) (after-is f i) ∙ eighths-is f i ∙ threes-are f i)
     ∙ joined-delayed n (passed (passed (passed f)))
 
 -- ---- the rows of a picture
@@ -168,14 +168,14 @@ pass-is : (w h : ℕ) (x : List ℕ) → pass w h x ≡ joined h (passed (rowAt 
 unfolding pass
 pass-is w h x = sym (joined-same h (passed (rowAt w x)) (passRow w x) (passed-row w x))
 
-eighths-are : (w h : ℕ) (x : List ℕ) → length x ≡ w * h → eighths w h x ≡ joined h (passed (passed (passed (rowAt w x))))
-unfolding eighths quarters halves
-eighths-are w h x l =
+pass-three-is-row : (w h : ℕ) (x : List ℕ) → length x ≡ w * h → passThree w h x ≡ joined h (passed (passed (passed (rowAt w x))))
+unfolding passThree passTwo passOne
+pass-three-is-row w h x l =
     let second = rows-of-pass w h (pass w h x) (length-pass w h x l) ∙ ap passed (rows-of-pass w h x l) in
     pass-is w h (pass w h (pass w h x)) ∙ ap (λ (f : ℕ → List ℕ). joined h (passed f)) second
 
 -- h rows, and three that are not there
-pub rows-give : (w h : ℕ) (x : List ℕ) → length x ≡ w * h → given nothing (rowAt w x) (h + 3) ≡ eighths w h x
+pub rows-give : (w h : ℕ) (x : List ℕ) → length x ≡ w * h → given nothing (rowAt w x) (h + 3) ≡ passThree w h x
 rows-give w h x l =
     let three-more : h + 3 ≡ suc (suc (suc h)) = omega arith in
-    ap (given nothing (rowAt w x)) three-more ∙ given-is (rowAt w x) h ∙ sym (eighths-are w h x l)
+    ap (given nothing (rowAt w x)) three-more ∙ given-is (rowAt w x) h ∙ sym (pass-three-is-row w h x l)

@@ -5,7 +5,7 @@ use mathlib.Core.List.{List, [], _∷_, _++_}
 use Prim.Native.Nat.{ℕ, _*_}
 use lib.Dec.{eqb}
 use lib.ListN.{take}
-use Rattle.numbers.specs.Lists.{AtMost}
+use Rattle.arithmetic.specs.Lists.{AtMost}
 use Rattle.memory.specs.Memory.{StartIs}
 use Rattle.scan.specs.Scan.{Scanned, RowsIs, EndIs}
 
@@ -49,11 +49,11 @@ tellStart w h = since w h [] [] false
 
 abbrev pub tellRows : Told → List ℕ → Scanned → Told
 tellRows told-nothing levels r = told-nothing
-tellRows (since w h x g e) levels r = since w h (x ++ levels) (g ++ givenOut w r) e
+tellRows (since w h taken given ended) levels r = since w h (taken ++ levels) (given ++ givenOut w r) ended
 
 abbrev pub tellEnd : Told → Scanned → Told
 tellEnd told-nothing r = told-nothing
-tellEnd (since w h x g e) r = since w h x (g ++ givenOut w r) true
+tellEnd (since w h taken given ended) r = since w h taken (given ++ givenOut w r) true
 
 abbrev pub tellDone : Told → Call → Scanned → Told
 tellDone t (start-call w h) r = tellStart w h

@@ -37,8 +37,7 @@ pub(crate) fn send(block: &[u8], text: Ended) -> u8
     if text.failed {
         return FAILED;
     }
-    let at = text.at;
-    if write(&block[..at]) {
+    if write(&block[..text.at]) {
         return ANSWERED;
     }
     FAILED
@@ -135,8 +134,9 @@ fn end(block: &mut [u8], at: usize) -> Ended
     so_far(start.at + 1)
 }
 
-fn wide_value(x: u16) -> u64 {
-    x as u64
+// A function of its own, so that the loop below has no cast for its proof to follow.
+fn value_as_number(value: u16) -> u64 {
+    value as u64
 }
 
 // The elements of a buffer of values, as a line behind the text that the block has.
@@ -153,7 +153,7 @@ pub(crate) fn values(block: &mut [u8], text: Ended, s: &[u16]) -> Ended
     let mut at = text.at;
     let mut i = 0;
     while i < s.len() {
-        let more = put(block, at, wide_value(s[i]), after(i, s.len()));
+        let more = put(block, at, value_as_number(s[i]), after(i, s.len()));
         if more.failed {
             return more;
         }
@@ -163,8 +163,9 @@ pub(crate) fn values(block: &mut [u8], text: Ended, s: &[u16]) -> Ended
     so_far(at)
 }
 
-fn wide_count(x: u32) -> u64 {
-    x as u64
+// The same of a count.
+fn count_as_number(count: u32) -> u64 {
+    count as u64
 }
 
 // The elements of a buffer of counts, likewise.
@@ -181,7 +182,7 @@ pub(crate) fn counts(block: &mut [u8], text: Ended, s: &[u32]) -> Ended
     let mut at = text.at;
     let mut i = 0;
     while i < s.len() {
-        let more = put(block, at, wide_count(s[i]), after(i, s.len()));
+        let more = put(block, at, count_as_number(s[i]), after(i, s.len()));
         if more.failed {
             return more;
         }
@@ -195,6 +196,7 @@ pub(crate) fn counts(block: &mut [u8], text: Ended, s: &[u32]) -> Ended
 pub(crate) fn last(block: &mut [u8], words: &[u8], n: u64) {
     if write(words) {
         let end = text::number(block, 0, n, b'\n');
+        // nothing is written after it, so whether it was written changes nothing more
         write(&block[..end]);
     }
 }

@@ -1,5 +1,6 @@
 // Each public call: its arguments read, the call made, its answer written; and how the request ended.
-// Where it was not whole, nothing has been answered.
+// Where it was not whole, nothing has been answered. A call on parts of longer spaces stands in a function
+// of its own, `.._lent`: so the prover finds the lengths of the spaces without help.
 ghost use Prim.Native.Nat.{_≤_};
 ghost use lib.ListN.{length};
 use crate::ANSWERED;
@@ -27,8 +28,7 @@ pub(crate) fn picture(
     if how != ANSWERED {
         return how;
     }
-    let i = l.count;
-    picture_lent(letter, block, &levels[..i], &sides, one, two)
+    picture_lent(letter, block, &levels[..l.count], &sides, one, two)
 }
 
 // Their two buffers.
@@ -50,12 +50,12 @@ fn picture_lent(
     if b.how != ANSWERED {
         return b.how;
     }
-    let j = a.count;
-    let k = b.count;
+    let output = &mut one[..a.count];
+    let work = &mut two[..b.count];
     if letter == b'm' {
-        measure(block, levels, sides, &mut one[..j], &mut two[..k])
+        measure(block, levels, sides, output, work)
     } else {
-        filter(block, levels, sides, &mut one[..j], &mut two[..k])
+        filter(block, levels, sides, output, work)
     }
 }
 
@@ -123,9 +123,7 @@ pub(crate) fn rows(block: &mut [u8], held: &mut [u16], levels: &mut [u8], one: &
     if a.how != ANSWERED {
         return a.how;
     }
-    let i = l.count;
-    let j = a.count;
-    rows_lent(block, held, &levels[..i], &mut one[..j])
+    rows_lent(block, held, &levels[..l.count], &mut one[..a.count])
 }
 
 fn rows_lent(block: &mut [u8], held: &mut [u16], levels: &[u8], output: &mut [u16]) -> u8
@@ -143,8 +141,7 @@ pub(crate) fn end(block: &mut [u8], held: &mut [u16], one: &mut [u16]) -> u8
     if a.how != ANSWERED {
         return a.how;
     }
-    let j = a.count;
-    end_lent(block, held, &mut one[..j])
+    end_lent(block, held, &mut one[..a.count])
 }
 
 fn end_lent(block: &mut [u8], held: &mut [u16], output: &mut [u16]) -> u8
@@ -189,9 +186,7 @@ pub(crate) fn count(block: &mut [u8], values: &mut [u16], counts: &mut [u32]) ->
     if h.how != ANSWERED {
         return h.how;
     }
-    let i = v.count;
-    let j = h.count;
-    count_lent(block, &values[..i], &mut counts[..j])
+    count_lent(block, &values[..v.count], &mut counts[..h.count])
 }
 
 fn count_lent(block: &mut [u8], values: &[u16], histogram: &mut [u32]) -> u8
@@ -211,8 +206,7 @@ pub(crate) fn two_means(block: &mut [u8], counts: &mut [u32]) -> u8
     if h.how != ANSWERED {
         return h.how;
     }
-    let i = h.count;
-    let t = threshold::two_means(&counts[..i]);
+    let t = threshold::two_means(&counts[..h.count]);
     let text = answer::line(
         block,
         b't',
@@ -239,11 +233,9 @@ pub(crate) fn sample(block: &mut [u8], levels: &mut [u8]) -> u8
     if how != ANSWERED {
         return how;
     }
-    let i = l.count;
-    sample_lent(block, &levels[..i], &numbers)
+    sample_lent(block, &levels[..l.count], &numbers)
 }
 
-// The call by itself, so that the prover finds the lengths of the spaces without help.
 fn sample_lent(block: &mut [u8], levels: &[u8], numbers: &[u8; 32]) -> u8
     requires { ⌜ 32 ≤ length (now block) ⌝ }
 {

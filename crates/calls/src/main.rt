@@ -11,7 +11,7 @@ mod wire;
 ghost use mathlib.Core.Path.{_≡_};
 ghost use Prim.Native.Nat.{_≤_, min};
 ghost use lib.ListN.{length};
-ghost use Rattle.calls.specs.Space.{Places};
+ghost use Rattle.calls.specs.Space.{OfLength};
 use request::Next;
 
 // How a request ended: it was whole and has been answered; the input ended before it; it was cut
@@ -93,7 +93,7 @@ fn serve(
     requires { ⌜ 32 ≤ length (now block) ⌝ }
 {
     let mut answered: u64 = 0;
-    while answered < 18446744073709551615 {
+    while answered < 18_446_744_073_709_551_615 {
         let how = turn(block, levels, one, two, counts, held);
         if how != ANSWERED {
             finish(block, how, answered);
@@ -111,30 +111,30 @@ fn smaller(a: usize, b: usize) -> usize
 }
 
 // The longest slices and buffers that a request can name: one element more than any picture has, so
-// that one too many can be shown, and 4,096 counts.
-fn level_space() -> [u8; 1048577]
-    ensures { λ r. ⌜ Places 1048577 r ⌝ }
+// that one too many can be shown, and 4,096 counts. Each is made by a function, which promises its length.
+fn level_space() -> [u8; 1_048_577]
+    ensures { λ r. ⌜ OfLength 1_048_577 r ⌝ }
 {
-    [0; 1048577]
+    [0; 1_048_577]
 }
 
-fn value_space() -> [u16; 1048577]
-    ensures { λ r. ⌜ Places 1048577 r ⌝ }
+fn value_space() -> [u16; 1_048_577]
+    ensures { λ r. ⌜ OfLength 1_048_577 r ⌝ }
 {
-    [0; 1048577]
+    [0; 1_048_577]
 }
 
-fn count_space() -> [u32; 4096]
-    ensures { λ r. ⌜ 4096 ≡ length r ⌝ }
+fn count_space() -> [u32; 4_096]
+    ensures { λ r. ⌜ 4_096 ≡ length r ⌝ }
 {
-    [0; 4096]
+    [0; 4_096]
 }
 
 // The memory of the one scan that the program keeps: all zeros is "before a good start".
-fn scan_space() -> [u16; 6147]
-    ensures { λ r. ⌜ Places 6147 r ⌝ }
+fn scan_space() -> [u16; 6_147]
+    ensures { λ r. ⌜ OfLength 6_147 r ⌝ }
 {
-    [0; 6147]
+    [0; 6_147]
 }
 
 // The spaces are made once and lent, so that no request pays for clearing them: 5 MiB of the 8 that

@@ -4,9 +4,9 @@ ghost use mathlib.Core.Path.{_≡_};
 ghost use Prim.Native.Nat.{_+_, _*_, _≤_};
 ghost use lib.ListN.{length};
 ghost use Rattle.io.specs.Counts.{Counts};
-ghost use Rattle.numbers.specs.Bytes.{twoBytes, fourBytes};
-ghost use Rattle.numbers.specs.Lists.{listed, over};
-ghost use Rattle.numbers.specs.Refusals.{Unless};
+ghost use Rattle.arithmetic.specs.Bytes.{twoBytes, fourBytes};
+ghost use Rattle.arithmetic.specs.Lists.{listed, over};
+ghost use Rattle.answers.specs.Refusals.{Unless};
 ghost use Rattle.calls.specs.Space.{All, None, LentIs};
 use crate::ANSWERED;
 use crate::BAD;
@@ -14,7 +14,7 @@ use crate::FAILED;
 use crate::NO_MORE;
 use crate::smaller;
 use crate::wire;
-use numbers::bytes;
+use arithmetic::bytes;
 
 // What a request begins with: the letter of a call; or nothing, and how the run ends.
 pub enum Next {
@@ -61,7 +61,7 @@ fn nothing(how: u8) -> Taken
 }
 
 // A length as it was read, against a space of `most`: taken up to that very number, and no more.
-fn within(n: u64, most: usize) -> Taken
+fn up_to(n: u64, most: usize) -> Taken
     ensures { λ r. ⌜ Unless (n ≤ most) (None 2 r) (All n r) ⌝ }
 {
     if (most as u64) < n {
@@ -82,7 +82,7 @@ fn size(most: usize) -> Taken
     if how != ANSWERED {
         return nothing(how);
     }
-    within(bytes::number(b), most)
+    up_to(bytes::number(b), most)
 }
 
 // Fills the first n places of a space from the input; how that went.
@@ -211,15 +211,15 @@ fn set_values(space: &mut [u16], n: usize, v: u16)
 
 // A buffer of values from the bytes of its length and of the value that fills it (its low 16 bits).
 fn lent_values(b: &[u8; 16], space: &mut [u16]) -> Taken
-    ensures { λ r. ⌜ LentIs 65536 (now (b .entry)) (now (space .entry)) r (now (space .exit)) ⌝ }
+    ensures { λ r. ⌜ LentIs 65_536 (now (b .entry)) (now (space .entry)) r (now (space .exit)) ⌝ }
 {
-    let t = within(wire::number(b, 0), space.len());
+    let t = up_to(wire::number(b, 0), space.len());
     let n = t.count;
-    set_values(space, n, (wire::number(b, 1) % 65536) as u16);
+    set_values(space, n, (wire::number(b, 1) % 65_536) as u16);
     t
 }
 
-// The same, read.
+// The same, with its bytes read from the input.
 pub(crate) fn value_buffer(space: &mut [u16]) -> Taken
     ensures { λ r. ⌜ Counts (r .count) (now (space .exit)) ⌝ }
 {
@@ -244,11 +244,11 @@ fn set_counts(space: &mut [u32], n: usize, v: u32)
 
 // A buffer of counts, likewise (its low 32 bits).
 fn lent_counts(b: &[u8; 16], space: &mut [u32]) -> Taken
-    ensures { λ r. ⌜ LentIs 4294967296 (now (b .entry)) (now (space .entry)) r (now (space .exit)) ⌝ }
+    ensures { λ r. ⌜ LentIs 4_294_967_296 (now (b .entry)) (now (space .entry)) r (now (space .exit)) ⌝ }
 {
-    let t = within(wire::number(b, 0), space.len());
+    let t = up_to(wire::number(b, 0), space.len());
     let n = t.count;
-    set_counts(space, n, (wire::number(b, 1) % 4294967296) as u32);
+    set_counts(space, n, (wire::number(b, 1) % 4_294_967_296) as u32);
     t
 }
 

@@ -4,10 +4,10 @@ ghost use Prim.Native.Nat.{_+_, _*_, _≤_};
 ghost use lib.ListN.{length};
 ghost use mir.Syntax.{w64};
 ghost use mir.Val.{toZ};
-ghost use Rattle.numbers.specs.Bytes.{eightBytes};
+ghost use Rattle.arithmetic.specs.Bytes.{eightBytes};
 ghost use Rattle.units.specs.Units.{sixteenths};
 ghost use Rattle.calls.specs.Space.{argument};
-use numbers::bytes;
+use arithmetic::bytes;
 use units::Sixteenths;
 
 // The eight bytes from `at` on.

@@ -1,7 +1,7 @@
 -- Every row of document 01's table of marked cases holds. Each call's own test stands with its other examples (proofs/Examples.antt
 -- of its crate). Assumes nothing.
 use mathlib.Core.Option.{Option, get}
-use Rattle.numbers.proofs.Computed.{EveryRow, every-row}
+use Rattle.arithmetic.proofs.Computed.{EveryRow, every-row}
 use Rattle.filter.proofs.Examples.{first-holds, holds as filter-holds, row as filter-row}
 use Rattle.judge.proofs.Examples.{holds as judge-holds, row as judge-row}
 use Rattle.threshold.specs.TwoMeans.{level}

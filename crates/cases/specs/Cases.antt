@@ -6,19 +6,19 @@
 --   judge N M m D gives verdict number q
 --   two-means counts start after-each-round gives answered number rounds T
 --   level rests-in counts                           counts are pairs of a level and how many pixels have it
---   sample width height levels x y gives sampled number value        x and y are `place i k`: pixel i, remainder k
+--   sample width height levels x y gives sampled number value        x and y are `coordinate i k`: pixel i, remainder k
 --   length s p gives sharpness number length
 --
 -- Rows.antt says the same in antt; that every row holds is `worked` (proofs/Worked.antt); src/main.rt runs the rest.
 use mathlib.Core.List.{List, [], _∷_}
 use Prim.Native.Nat.{ℕ}
 use lib.IntN.{pos}
-use Rattle.numbers.specs.Fractions.{fraction}
+use Rattle.arithmetic.specs.Fractions.{fraction}
 use Rattle.judge.specs.Judge.{verdict}
 use Rattle.threshold.specs.TwoMeans.{answered}
 use Rattle.sample.specs.Cubic.{sampled}
 use Rattle.length.specs.Length.{sharpness}
-use Rattle.cases.specs.Rows.{Case, _gives_, _rests-in_, filter, first-pass, judge, two-means, sample, length, place}
+use Rattle.cases.specs.Rows.{Case, _gives_, _rests-in_, filter, first-pass, judge, two-means, sample, length, coordinate}
 
 -- "one each at 100, 128, 156"
 abbrev pub three-levels : List (ℕ × ℕ)
@@ -54,7 +54,7 @@ table =
     ∷ 121 rests-in three-levels
     ∷ 135 rests-in three-levels
     -- "* Four columns 0 0 255 255, four rows, both remainders 8: 8,556,380,160 (127.5 levels) at i = j = 1."
-    ∷ sample 4 4 four-columns (place 1 8) (place 1 8) gives sampled 0 (pos 8_556_380_160)
+    ∷ sample 4 4 four-columns (coordinate 1 8) (coordinate 1 8) gives sampled 0 (pos 8_556_380_160)
     -- "* s = 32, p = 800: 1,131."
     ∷ length 32 800 gives sharpness 0 1_131
     ∷ []

@@ -4,9 +4,9 @@ use mathlib.Core.List.{List, _++_}
 use Prim.Native.Nat.{ℕ, _+_, _*_, _≤_}
 use lib.IntN.{ℤ, pos}
 use lib.ListN as ListN
-use Rattle.numbers.specs.declared.Fraction.{Fraction}
+use Rattle.arithmetic.specs.declared.Fraction.{Fraction}
 use Rattle.units.specs.Units.{sixteenths, picometres, eighths}
-use Rattle.filter.specs.Filter.{halves, Outcome, FilterIs}
+use Rattle.filter.specs.Filter.{passOne, Outcome, FilterIs}
 use Rattle.judge.specs.declared.Verdict.{Verdict}
 use Rattle.judge.specs.Judge.{JudgeIs}
 use Rattle.threshold.specs.declared.Threshold.{Threshold}
@@ -49,8 +49,8 @@ pub data Case : Type 0 where
   _rests-in_ : ℕ → List (ℕ × ℕ) → Case
 
 -- "A place is x, y in sixteenths of a pixel: column i, row j and remainders k": one of the two
-abbrev pub place : ℕ → ℕ → ℤ
-place i k = pos (16 * i + k)
+abbrev pub coordinate : ℕ → ℕ → ℤ
+coordinate i k = pos (16 * i + k)
 
 -- ---- what it says
 -- Whatever a promise permits is this answer. (That it permits one is what the call shows, which keeps its promise for every input.)
@@ -63,7 +63,7 @@ abbrev pub Holds : Case → Type 0
 Holds (filter w h levels gives expected) =
     (output work : List ℕ) → w * h ≤ ListN.length output → w * h ≤ ListN.length work
     → (r : Outcome) → FilterIs levels w h output work r → (r .number ≡ 0) × (r .output ≡ expected ++ ListN.drop (w * h) output)
-Holds (first-pass w h levels gives expected) = halves w h levels ≡ expected
+Holds (first-pass w h levels gives expected) = passOne w h levels ≡ expected
 Holds (judge N M m D gives v) = Only (JudgeIs N (eighths M) (eighths m) D) v
 Holds (two-means counts v l gives t) =
     (start 128 (histogram counts) ≡ level v)

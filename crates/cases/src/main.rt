@@ -4,7 +4,8 @@
 use libc::STDOUT_FILENO;
 use units::Eighths;
 
-// A number, and what stands after it.
+// A number, and what stands after it. Whether they were written is not asked: the output is compared with
+// what it must be, and a part that is missing shows there.
 fn put(n: u64, after: &[u8]) {
     io::print_decimal(STDOUT_FILENO, n);
     io::write_all(STDOUT_FILENO, after);
@@ -23,15 +24,15 @@ fn judged(count: u64, bright: u64, dark: u64, spread: u64) {
 
 fn main() {
     // "m = 7,392, D = 655,360,000 gives 0 and 1,000; D one more gives 9 and 999"
-    judged(256, 25600, 7392, 655360001);
+    judged(256, 25_600, 7_392, 655_360_001);
     // "M = 21,759 or 31,361 is 6; 21,760 and 31,360 are not"
-    judged(256, 21759, 6400, 419430400);
-    judged(256, 31361, 6400, 419430400);
-    judged(256, 21760, 6400, 419430400);
-    judged(256, 31360, 6400, 419430400);
+    judged(256, 21_759, 6_400, 419_430_400);
+    judged(256, 31_361, 6_400, 419_430_400);
+    judged(256, 21_760, 6_400, 419_430_400);
+    judged(256, 31_360, 6_400, 419_430_400);
     // "m = 1,279 or 10,241 is 7; 1,280 and 10,240 are not"
-    judged(256, 25600, 1279, 419430400);
-    judged(256, 25600, 10241, 419430400);
-    judged(256, 25600, 1280, 419430400);
-    judged(256, 25600, 10240, 419430400);
+    judged(256, 25_600, 1_279, 419_430_400);
+    judged(256, 25_600, 10_241, 419_430_400);
+    judged(256, 25_600, 1_280, 419_430_400);
+    judged(256, 25_600, 10_240, 419_430_400);
 }

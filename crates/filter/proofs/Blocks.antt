@@ -7,9 +7,9 @@ use native.Mathlib.Nat.{zero-add, zero-min, min-zero, suc-min-suc}
 use native.Mathlib.Omega.{arith}
 use lib.ListN.{length, getD, take, drop, length-append}
 use lib.Seq.{slice, length-slice, length-take-le, take-at, take-nil, drop-nil}
-use Rattle.numbers.specs.Lists.{joined, AtMost}
-use Rattle.numbers.proofs.Lists.{length-joined, joined-at, joined-same, most-append, most-slice}
-use Rattle.numbers.proofs.Writing.{Overwritten}
+use Rattle.arithmetic.specs.Lists.{joined, AtMost}
+use Rattle.arithmetic.proofs.Lists.{length-joined, joined-at, joined-same, most-append, most-slice}
+use Rattle.arithmetic.proofs.Writing.{Overwritten}
 use Rattle.filter.specs.Median.{near, twiceMedian, block, rowOf}
 use Rattle.filter.specs.Asked.{Row}
 use Rattle.filter.proofs.Lists.{listed-part}

@@ -7,8 +7,8 @@ use native.Mathlib.Nat.{ℕ-set}
 use native.Mathlib.Omega.{arith}
 use lib.ListN.{length, getD, take}
 use lib.Seq.{getD-take, length-take-le}
-use Rattle.numbers.specs.Sums.{sum}
-use Rattle.numbers.proofs.Sums.{sum-first, sum-more, sum-most, sum-same, sum-equal}
+use Rattle.arithmetic.specs.Sums.{sum}
+use Rattle.arithmetic.proofs.Sums.{sum-first, sum-more, sum-most, sum-same, sum-equal}
 use Rattle.filter.specs.Median.{sorted}
 use Rattle.filter.proofs.Sorting.{same-levels}
 

@@ -6,11 +6,11 @@ use native.Mathlib.Nat.{le-trans}
 use native.Mathlib.Omega.{arith}
 use lib.ListN.{length, take}
 use lib.Seq.{slice, take-take}
-use Rattle.numbers.specs.Lists.{AtMost}
-use Rattle.numbers.proofs.Lists.{most-cons, most-append, most-take, most-slice, most-joined}
+use Rattle.arithmetic.specs.Lists.{AtMost}
+use Rattle.arithmetic.proofs.Lists.{most-cons, most-append, most-take, most-slice, most-joined}
 use Rattle.filter.specs.Median.{near, insert, insertAll, sorted, twiceMedian, block, rowOf, passRow, pass}
 use Rattle.picture.specs.Picture.{Side}
-use Rattle.filter.specs.Filter.{halves, quarters, eighths}
+use Rattle.filter.specs.Filter.{passOne, passTwo, passThree}
 use Rattle.filter.specs.Asked.{Picture}
 
 -- a level put into its place
@@ -63,17 +63,17 @@ most-pass b w h x p =
 
 -- each pass's range: "the first pass is held in halves, the second in quarters, the third in eighths (0 to 2,040)"
 module _ (w h : ℕ) (levels : List ℕ) (p : AtMost 255 levels) where
-  pub most-halves : AtMost 510 (halves w h levels)
-  unfolding halves
-  most-halves = most-pass 255 w h levels p
+  pub most-pass-one : AtMost 510 (passOne w h levels)
+  unfolding passOne
+  most-pass-one = most-pass 255 w h levels p
 
-  pub most-quarters : AtMost 1020 (quarters w h levels)
-  unfolding quarters
-  most-quarters = most-pass 510 w h (halves w h levels) most-halves
+  pub most-pass-two : AtMost 1020 (passTwo w h levels)
+  unfolding passTwo
+  most-pass-two = most-pass 510 w h (passOne w h levels) most-pass-one
 
-  pub most-eighths : AtMost 2040 (eighths w h levels)
-  unfolding eighths
-  most-eighths = most-pass 1020 w h (quarters w h levels) most-quarters
+  pub most-pass-three : AtMost 2040 (passThree w h levels)
+  unfolding passThree
+  most-pass-three = most-pass 1020 w h (passTwo w h levels) most-pass-two
 
 -- a list that is small enough, and of the right length, is a picture that a pass can take
 pub picture-of : (b w h : ℕ) (x y : List ℕ) → Side w × Side h → length x ≡ w * h → x ≡ y → AtMost b y → b ≤ 1020 → Picture w h x

@@ -10,7 +10,7 @@ use native.Mathlib.Decide.{decLe}
 use native.Mathlib.Omega.{arith}
 use borrow.Author.Tests.{lt-ltb, le-ltb}
 use lib.ListN.{length, getD}
-use Rattle.numbers.proofs.Sums.{sum-most, sum-equal, sum-add, sum-cut}
+use Rattle.arithmetic.proofs.Sums.{sum-most, sum-equal, sum-add, sum-cut}
 use Rattle.filter.specs.Median.{sorted, twiceMedian}
 use Rattle.filter.specs.Counting.{oneBelow, countBelow, countAbove, OfRank}
 use Rattle.filter.proofs.Sorting.{Ascending, ascending, odd}

@@ -8,10 +8,10 @@ use native.Mathlib.Decide.{ℕ-discrete}
 use borrow.Author.Tests.{eq-eqb, ne-eqb}
 use lib.Dec.{eqb}
 use lib.ListN.{length, drop}
-use Rattle.numbers.specs.Lists.{AtMost, joined}
-use Rattle.numbers.specs.Refusals.{Unless}
-use Rattle.numbers.proofs.Lists.{no-elements}
-use Rattle.numbers.proofs.Refusals.{stops, goes-on, alike, together, past}
+use Rattle.arithmetic.specs.Lists.{AtMost, joined}
+use Rattle.answers.specs.Refusals.{Unless}
+use Rattle.arithmetic.proofs.Lists.{no-elements}
+use Rattle.answers.proofs.Refusals.{stops, goes-on, past}
 use Rattle.filter.specs.Median.{rowOf}
 use Rattle.filter.specs.Row.{Beside, Small, RowOutcome, rowOutcome, RowIs}
 use Rattle.filter.specs.Asked.{Row, RowOrNone}
@@ -75,7 +75,3 @@ module _ (above here below output : List ℕ) where
   pub when-row-fits : (r : RowOutcome) → RowFits above here below output → RowIs above here below output r
       → r ≡ rowOutcome 0 (rowOf above here below ++ drop (length here) output)
   when-row-fits r f d = past (f .small) (past (f .long-output) (past (f .beside) d))
-
-  -- the answer is determined: two outcomes that the promise permits are one
-  pub one-row-outcome : (a b : RowOutcome) → RowIs above here below output a → RowIs above here below output b → a ≡ b
-  one-row-outcome a b = together alike (together alike (together alike alike))

@@ -8,44 +8,44 @@ use native.Mathlib.Omega.{arith}
 use borrow.Author.Count.{below-more}
 use lib.ListN.{length, getD, take}
 use lib.Seq.{getD-take, length-take-le}
-use Rattle.numbers.specs.Refusals.{Unless}
-use Rattle.numbers.proofs.Sums.{sum-none}
+use Rattle.answers.specs.Refusals.{Unless}
+use Rattle.arithmetic.proofs.Sums.{sum-none}
 use Rattle.filter.specs.Median.{sorted, twiceMedian}
-use Rattle.filter.specs.Counting.{oneBelow, countBelow, countAbove, OfRank, Counted}
+use Rattle.filter.specs.Counting.{oneBelow, countBelow, countAbove, OfRank, SidesAre}
 use Rattle.filter.proofs.Each.{each, each-more, each-few}
 use Rattle.filter.proofs.Ranks.{none-below, one-most, rank-is, rank-has, some-level}
 
 -- ---- both counts of v, among the first k of t
 module _ (t : List ℕ) (v : ℕ) where
   -- of none
-  pub counted-none : Counted v (take 0 t) 0 0
+  pub sides-none : SidesAre v (take 0 t) 0 0
   unfolding countBelow countAbove
-  counted-none = record { below-is = sym (sum-none _); above-is = sym (sum-none _) }
+  sides-none = record { below-is = sym (sum-none _); above-is = sym (sum-none _) }
 
   -- of one level more
-  pub counted-more : (k below above : ℕ) → k < length t → Counted v (take k t) below above
-      → Counted v (take (k + 1) t) (below + oneBelow (getD t k 0) v) (above + oneBelow v (getD t k 0))
+  pub sides-more : (k below above : ℕ) → k < length t → SidesAre v (take k t) below above
+      → SidesAre v (take (k + 1) t) (below + oneBelow (getD t k 0) v) (above + oneBelow v (getD t k 0))
   unfolding countBelow countAbove each
-  counted-more k below above inside so-far =
+  sides-more k below above inside so-far =
       record {
         below-is = omega (arith, so-far .below-is, each-more (λ x. oneBelow x v) t k inside);
         above-is = omega (arith, so-far .above-is, each-more (λ x. oneBelow v x) t k inside);
       }
 
   -- which may be v itself: it lies neither below nor above itself
-  pub counted-itself : (k below above : ℕ) → k < length t → v ≡ getD t k 0 → Counted v (take k t) below above
-      → Counted v (take (k + 1) t) below above
-  counted-itself k below above inside is so-far =
-      let more = counted-more k below above inside so-far in
+  pub sides-itself : (k below above : ℕ) → k < length t → v ≡ getD t k 0 → SidesAre v (take k t) below above
+      → SidesAre v (take (k + 1) t) below above
+  sides-itself k below above inside is so-far =
+      let more = sides-more k below above inside so-far in
       record {
         below-is = omega (arith, more .below-is, none-below (getD t k 0) v (omega arith));
         above-is = omega (arith, more .above-is, none-below v (getD t k 0) (omega arith));
       }
 
   -- neither is more than the number of levels that were looked at
-  pub counted-few : (k below above : ℕ) → k ≤ length t → Counted v (take k t) below above → (below ≤ k) × (above ≤ k)
+  pub sides-few : (k below above : ℕ) → k ≤ length t → SidesAre v (take k t) below above → (below ≤ k) × (above ≤ k)
   unfolding countBelow countAbove each
-  counted-few k below above inside so-far = (
+  sides-few k below above inside so-far = (
     omega (arith, so-far .below-is, each-few (λ x. oneBelow x v) t (λ x. one-most x v) k inside),
     omega (arith, so-far .above-is, each-few (λ x. oneBelow v x) t (λ x. one-most v x) k inside),
   )
@@ -70,7 +70,7 @@ module _ (l : List ℕ) (r : ℕ) (inside : r < length l) where
   module _
       (k v below above low high : ℕ)
       (is : v ≡ getD l k 0)
-      (counts : Counted v l below above)
+      (counts : SidesAre v l below above)
       (low-is : low ≡ r)
       (high-is : high ≡ length l - 1 - r)
     where
@@ -126,7 +126,7 @@ module _ (t : List ℕ) (n : ℕ) (some : 1 ≤ n) (long : n ≤ length t) where
       }
 
   -- of n levels n − 1 − (n − 1)/2 is n/2, so that the two ranks are also how many may lie above
-  pub middles-more : (k v below above low high lower upper lower' upper' : ℕ) → k < n → v ≡ getD t k 0 → Counted v (take n t) below above
+  pub middles-more : (k v below above low high lower upper lower' upper' : ℕ) → k < n → v ≡ getD t k 0 → SidesAre v (take n t) below above
       → low ≡ (n - 1) / 2 → high ≡ n / 2
       → Unless ((below ≤ low) × (above ≤ high)) (lower' ≡ lower) (lower' ≡ v)
       → Unless ((below ≤ high) × (above ≤ low)) (upper' ≡ upper) (upper' ≡ v)

@@ -6,7 +6,7 @@ use mathlib.Core.List.{List}
 use Prim.Native.Nat.{ℕ, _-_, _≤_}
 use lib.Dec.{ltb}
 use lib.ListN.{length, getD}
-use Rattle.numbers.specs.Sums.{sum}
+use Rattle.arithmetic.specs.Sums.{sum}
 
 -- 1 where a lies below b, else 0
 unfoldable pub oneBelow : ℕ → ℕ → ℕ
@@ -27,6 +27,6 @@ pub record OfRank (l : List ℕ) (r v : ℕ) : Type 0 where
   pub few-above : countAbove v l ≤ length l - 1 - r
 
 -- both counts of v among the levels
-pub record Counted (v : ℕ) (l : List ℕ) (below above : ℕ) : Type 0 where
+pub record SidesAre (v : ℕ) (l : List ℕ) (below above : ℕ) : Type 0 where
   pub below-is : below ≡ countBelow v l
   pub above-is : above ≡ countAbove v l

@@ -4,8 +4,8 @@ use mathlib.Core.List.{List, _++_}
 use mathlib.Core.Logic.{_⊎_}
 use Prim.Native.Nat.{ℕ, _≤_}
 use lib.ListN.{length, drop}
-use Rattle.numbers.specs.Refusals.{Unless}
-use Rattle.numbers.specs.Lists.{AtMost}
+use Rattle.answers.specs.Refusals.{Unless}
+use Rattle.arithmetic.specs.Lists.{AtMost}
 use Rattle.filter.specs.Median.{rowOf}
 
 -- how many values a row above or below one of n may have: none, where it is outside the picture, or as many
@@ -14,7 +14,7 @@ Beside n values = (values ≡ 0) ⊎ (values ≡ n)
 
 -- values that another pass may follow: their doubles are at most 2,040
 abbrev pub Small : List ℕ → List ℕ → List ℕ → Type 0
-Small above here below = AtMost 1020 above × AtMost 1020 here × AtMost 1020 below
+Small above here below = AtMost 1_020 above × AtMost 1_020 here × AtMost 1_020 below
 
 -- what the call answers and leaves: the number, and the output's elements
 pub record RowOutcome : Type 0 where

@@ -12,17 +12,17 @@
 ghost use mathlib.Core.Path.{_≡_};
 ghost use Prim.Native.Nat.{_-_, _/_, _≤_, _<_};
 ghost use lib.ListN.{length, getD, take};
-ghost use Rattle.numbers.specs.Lists.{AtMost};
-ghost use Rattle.numbers.specs.Refusals.{Unless};
+ghost use Rattle.arithmetic.specs.Lists.{AtMost};
+ghost use Rattle.answers.specs.Refusals.{Unless};
 ghost use Rattle.filter.specs.Median.{twiceMedian};
-ghost use Rattle.filter.specs.Counting.{oneBelow, Counted};
+ghost use Rattle.filter.specs.Counting.{oneBelow, SidesAre};
 ghost use Rattle.filter.specs.Asked.{Count};
 
 // Twice the median of the first n of t: the lower and the upper middle level, added; of an odd number
 // they are one. The search begins with the first level: where none of the others is found, it is the
 // one.
 pub(crate) fn twice(t: &[u16], n: usize) -> u16
-    requires { ⌜ Count n × (n ≤ length (now t)) × AtMost 1020 (take n (now t)) ⌝ }
+    requires { ⌜ Count n × (n ≤ length (now t)) × AtMost 1_020 (take n (now t)) ⌝ }
     ensures { λ r. ⌜ r ≡ twiceMedian (take n (now (t .entry))) ⌝ }
 {
     let ranks = middle_ranks(n);
@@ -81,18 +81,18 @@ struct Sides {
 // Those of v, which stands at place k, among the first n of t. Those before it and those after it are
 // counted; v itself lies neither below nor above v.
 fn others(t: &[u16], n: usize, k: usize, v: u16) -> Sides
-    requires { ⌜ (k < n) × (n ≤ length (now t)) × (n ≤ 9) × AtMost 1020 (take n (now t)) × (v ≡ getD (now t) k 0) ⌝ }
-    ensures { λ r. ⌜ Counted v (take n (now (t .entry))) (r .below) (r .above) ⌝ }
+    requires { ⌜ (k < n) × (n ≤ length (now t)) × (n ≤ 9) × AtMost 1_020 (take n (now t)) × (v ≡ getD (now t) k 0) ⌝ }
+    ensures { λ r. ⌜ SidesAre v (take n (now (t .entry))) (r .below) (r .above) ⌝ }
 {
-    let before = counted(t, 0, k, v, Sides { below: 0, above: 0 });
-    counted(t, k + 1, n, v, before)
+    let before = count_sides(t, 0, k, v, Sides { below: 0, above: 0 });
+    count_sides(t, k + 1, n, v, before)
 }
 
 // Those of v among the first `end` of t, where `sides` has those among the first `from`.
-fn counted(t: &[u16], from: usize, end: usize, v: u16, sides: Sides) -> Sides
-    requires { ⌜ (from ≤ end) × (end ≤ length (now t)) × (end ≤ 9) × AtMost 1020 (take end (now t)) × (v ≤ 1020) ⌝ }
-    requires { ⌜ Counted v (take from (now t)) (sides .below) (sides .above) ⌝ }
-    ensures { λ r. ⌜ Counted v (take end (now (t .entry))) (r .below) (r .above) ⌝ }
+fn count_sides(t: &[u16], from: usize, end: usize, v: u16, sides: Sides) -> Sides
+    requires { ⌜ (from ≤ end) × (end ≤ length (now t)) × (end ≤ 9) × AtMost 1_020 (take end (now t)) × (v ≤ 1_020) ⌝ }
+    requires { ⌜ SidesAre v (take from (now t)) (sides .below) (sides .above) ⌝ }
+    ensures { λ r. ⌜ SidesAre v (take end (now (t .entry))) (r .below) (r .above) ⌝ }
 {
     let mut below = sides.below;
     let mut above = sides.above;
@@ -111,7 +111,7 @@ fn counted(t: &[u16], from: usize, end: usize, v: u16, sides: Sides) -> Sides
 // 1 where a lies below b, else 0. They are compared as signed numbers: for those the processor has an
 // instruction, and a level is far below 32,768.
 fn one_below(a: u16, b: u16) -> u16
-    requires { ⌜ (a ≤ 1020) × (b ≤ 1020) ⌝ }
+    requires { ⌜ (a ≤ 1_020) × (b ≤ 1_020) ⌝ }
     ensures { λ r. ⌜ r ≡ oneBelow a b ⌝ }
 {
     if (a as i16) < (b as i16) {

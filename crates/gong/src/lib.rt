@@ -1,4 +1,4 @@
-// The C face of the library: libgong.a, which include/gong.h declares. Every rule stands in the
+// The C door of the library: libgong.a, which include/gong.h declares. Every rule stands in the
 // crates below; here plain numbers become units, and an answer's parts go out by the number that
 // the function returns and through the pointers that the caller lends.
 ghost use Rattle.units.specs.Units.{sixteenths, picometres, eighths};
@@ -8,7 +8,7 @@ ghost use Rattle.scan.specs.Scan.{scanned, RowsIs, EndIs};
 ghost use Rattle.judge.specs.Judge.{verdict, JudgeIs};
 ghost use Rattle.judge.specs.Measure.{measurement, MeasureIs};
 ghost use Rattle.threshold.specs.Histogram.{tally, CountIs};
-ghost use Rattle.numbers.specs.Fractions.{fraction};
+ghost use Rattle.arithmetic.specs.Fractions.{fraction};
 ghost use Rattle.threshold.specs.TwoMeans.{answered, TwoMeansIs};
 ghost use Rattle.sample.specs.Cubic.{sampled, SampleIs};
 ghost use Rattle.length.specs.Length.{sharpness, LengthIs};
@@ -129,6 +129,7 @@ pub extern "C" fn gong_sample(
     ensures { λ r. ⌜ SampleIs (now (levels .entry)) width height (sixteenths x) (sixteenths y) (sampled r (now (value .exit))) ⌝ }
 {
     let sampled = sample::sample(levels, width, height, Sixteenths::of(x), Sixteenths::of(y));
+    // named, since the prover follows a signed number through a pointer from a local alone
     let signed = sampled.value;
     *value = signed;
     sampled.number

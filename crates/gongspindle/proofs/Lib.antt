@@ -1,2 +1,3 @@
 pub mod Findings
 pub mod Lines
+pub mod Outcomes

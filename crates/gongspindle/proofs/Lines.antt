@@ -1,4 +1,4 @@
--- What the calls say of a picture of the program's, put together; and that a picture has one line. Assumes nothing.
+-- What the calls say of a picture of the program's, put together. Assumes nothing.
 use mathlib.Core.Path.{_≡_, refl, ap, sym, subst, _∙_}
 use mathlib.Core.List.{List}
 use mathlib.Core.Logic.{_⊎_, inl, inr}
@@ -7,17 +7,14 @@ use native.Mathlib.Omega.{arith}
 use lib.Dec.{lit≤}
 use lib.ListN.{length, take, drop}
 use lib.Seq.{take-append-seam}
-use Rattle.numbers.proofs.Refusals.{past}
+use Rattle.answers.proofs.Refusals.{past}
 use Rattle.picture.specs.Picture.{Side}
-use Rattle.filter.specs.Filter.{eighths}
+use Rattle.filter.specs.Filter.{passThree}
 use Rattle.judge.specs.declared.Verdict.{Verdict}
 use Rattle.judge.specs.Measure.{Measurement, measurement, Measured, MeasureIs}
-use Rattle.judge.proofs.Verdicts.{one-judged}
 use Rattle.threshold.specs.declared.Threshold.{Threshold}
 use Rattle.threshold.specs.Histogram.{Countable, tally, Counted, CountIs}
 use Rattle.threshold.specs.TwoMeans.{TwoMeansIs}
-use Rattle.threshold.proofs.Outcomes.{one-histogram, one-threshold}
-use Rattle.gongspindle.specs.declared.levels.Line.{Line}
 use Rattle.gongspindle.specs.Line.{SquarePicture, LineIs}
 
 -- a side of 16 or 64 is in range and a multiple of 4, and its square has room in 4,096 places
@@ -55,37 +52,21 @@ module _ (levels : List ℕ) (side : ℕ) (square : SquarePicture side levels) w
       m = measured output work (measurement v o k) a b measuring
 
       -- the values that were counted are pass three
-      values : take (length levels) o ≡ eighths side side levels
+      values : take (length levels) o ≡ passThree side side levels
       values =
           ap (λ (n : ℕ). take n o) (square .1 ∙ sym (m .filtered .long))
-          ∙ ap (take (length (eighths side side levels))) (m .filtered .pass-three)
-          ∙ take-append-seam (eighths side side levels) (drop (side * side) output)
+          ∙ ap (take (length (passThree side side levels))) (m .filtered .pass-three)
+          ∙ take-append-seam (passThree side side levels) (drop (side * side) output)
 
-      countable : Countable (eighths side side levels)
+      countable : Countable (passThree side side levels)
       countable =
           let long = m .filtered .long in
           let some = F .some in
           let few = F .few in
           record { some = omega arith; few = omega arith; small = m .filtered .most }
 
-      all : Counted (eighths side side levels) (tally n counts)
+      all : Counted (passThree side side levels) (tally n counts)
       all = past countable (past places (subst (λ (x : List ℕ). CountIs x histogram (tally n counts)) values counting))
 
-      counted : Counted (eighths side side levels) (tally 0 counts)
+      counted : Counted (passThree side side levels) (tally 0 counts)
       counted = record { number = refl; places = all .places; counts = all .counts; total-is = all .total-is }
-
--- a picture has one line
-pub one-line : (levels : List ℕ) (side : ℕ) (a b : Line) → LineIs levels side a → LineIs levels side b → a ≡ b
-one-line levels side a b p q = λ i. record { verdict = v i; threshold = t i }
-  where
-    v : a .verdict ≡ b .verdict
-    v = one-judged levels (eighths side side levels) side side (a .verdict) (b .verdict) (p .judged) (q .judged)
-
-    h : p .histogram ≡ q .histogram
-    h = one-histogram (eighths side side levels) (tally 0 (p .histogram)) (tally 0 (q .histogram)) (p .counted) (q .counted)
-
-    t : a .threshold ≡ b .threshold
-    t =
-        one-threshold (q .histogram) (a .threshold) (b .threshold)
-        (subst (λ (x : List ℕ). TwoMeansIs x (a .threshold)) h (p .rests))
-        (q .rests)

@@ -5,7 +5,7 @@ use mathlib.Core.List.{List}
 use mathlib.Core.Logic.{_⊎_}
 use Prim.Native.Nat.{ℕ, _*_}
 use lib.ListN.{length}
-use Rattle.filter.specs.Filter.{eighths}
+use Rattle.filter.specs.Filter.{passThree}
 use Rattle.judge.specs.Measure.{Judged}
 use Rattle.threshold.specs.Histogram.{tally, Counted}
 use Rattle.threshold.specs.TwoMeans.{TwoMeansIs}
@@ -17,7 +17,7 @@ SquarePicture side levels = ((side ≡ 16) ⊎ (side ≡ 64)) × (length levels 
 
 -- number and q are the judge's verdict on the picture; rounds and the fraction are those of its filtered levels, counted
 pub record LineIs (levels : List ℕ) (side : ℕ) (l : Line) : Type 0 where
-  pub judged : Judged levels (eighths side side levels) side side (l .verdict)
+  pub judged : Judged levels (passThree side side levels) side side (l .verdict)
   pub histogram : List ℕ
-  pub counted : Counted (eighths side side levels) (tally 0 histogram)
+  pub counted : Counted (passThree side side levels) (tally 0 histogram)
   pub rests : TwoMeansIs histogram (l .threshold)

@@ -22,14 +22,15 @@ pub(crate) fn line_of(levels: &[u8], side: usize) -> Line
     let mut work = value_space();
     let mut histogram = [0u32; 256];
     let verdict = judge::measure(levels, side, side, &mut output, &mut work);
+    // its number is 0: the histogram has 256 places, and what a picture was filtered to can be counted
     threshold::count(&output[..n], &mut histogram);
     let threshold = threshold::two_means(&histogram);
     Line { verdict, threshold }
 }
 
-// As many values as the larger picture has.
-fn value_space() -> [u16; 4096]
-    ensures { λ r. ⌜ 4096 ≡ length r ⌝ }
+// As many values as the larger picture has: made by a function, which promises its length.
+fn value_space() -> [u16; 4_096]
+    ensures { λ r. ⌜ 4_096 ≡ length r ⌝ }
 {
-    [0; 4096]
+    [0; 4_096]
 }

@@ -39,11 +39,12 @@ fn report(input: &[u8]) -> Outcome
     }
 }
 
-// As many bytes as an input may have, and one more, which shows that there are too many.
-fn input_space() -> [u8; 32769]
-    ensures { λ r. ⌜ 32769 ≡ length r ⌝ }
+// As many bytes as an input may have, and one more, which shows that there are too many: made by a
+// function, which promises its length.
+fn input_space() -> [u8; 32_769]
+    ensures { λ r. ⌜ 32_769 ≡ length r ⌝ }
 {
-    [0; 32769]
+    [0; 32_769]
 }
 
 // The whole input is read before anything is printed: one that is too long gives a single line, and
@@ -55,8 +56,8 @@ fn main() {
     if got.failed {
         return;
     }
-    let n = got.count;
-    match report(&space[..n]) {
+    // the last line is the last thing done: whether it was written changes nothing more
+    match report(&space[..got.count]) {
         Outcome::Whole { good } => {
             print::records(good);
         }

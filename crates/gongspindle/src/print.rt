@@ -12,7 +12,7 @@ fn sent(good: bool) -> bool {
     good
 }
 
-// Some words.
+// Writes some text; whether it was written.
 fn text(words: &[u8]) -> bool {
     sent(io::write_all(STDOUT_FILENO, words))
 }

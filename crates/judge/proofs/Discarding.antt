@@ -7,22 +7,22 @@ use Prim.Native.Nat.{ℕ, zero, suc, _+_, _-_, _*_, _<_, _≤_}
 use native.Mathlib.Nat.{mul-le-mul, mul-le-mul-left, mul-le-mul-right, le-of-mul-le-mul-right}
 use native.Mathlib.Omega.{arith}
 use lib.Dec.{lit≤}
-use Rattle.numbers.specs.Refusals.{Unless}
-use Rattle.numbers.proofs.Order.{of-squares}
-use Rattle.numbers.proofs.Greatest.{next-has-not}
+use Rattle.answers.specs.Refusals.{Unless}
+use Rattle.arithmetic.proofs.Order.{of-squares}
+use Rattle.arithmetic.proofs.Greatest.{next-has-not}
 use Rattle.units.specs.declared.Eighths.{Eighths}
-use Rattle.filter.specs.Filter.{eighths}
-use Rattle.numbers.specs.declared.Fraction.{Fraction}
-use Rattle.numbers.specs.Fractions.{fraction, NotMore}
+use Rattle.filter.specs.Filter.{passThree}
+use Rattle.arithmetic.specs.declared.Fraction.{Fraction}
+use Rattle.arithmetic.specs.Fractions.{fraction, NotMore}
 use Rattle.judge.specs.declared.Verdict.{Verdict}
 use Rattle.judge.specs.Extremes.{bright, dark}
-use Rattle.judge.specs.Judge.{InRange, BrightInRange, DarkInRange, Reaches, RatioIs, refused, JudgeIs}
+use Rattle.judge.specs.Judge.{InRange, BrightInRange, DarkInRange, Reaches, leftOf, rightOf, RatioIs, refused, JudgeIs}
 use Rattle.judge.specs.Measure.{Judged, Measurement, Measured}
-use Rattle.judge.specs.AnnexA.{plus, times, squared, span, deviationSquared, Within, RatioFrom, RatioTen, Unfit, Discarded, Exactly}
+use Rattle.judge.specs.AnnexA.{plus, times, squared, span, deviationSquared, AverageInRange, RatioFrom, RatioTen, Unfit, Discarded, Exactly}
 use Rattle.judge.proofs.Ratios.{reaches-falls}
 
 -- "So q is the ratio in hundredths": the document's inequality is the annex's for q/100
-pub reaches-is : (N : ℕ) (M m : Eighths) (D q : ℕ) → Exactly (Reaches N (M .0 - m .0) D q) (RatioFrom N M m D (fraction q 100))
+pub reaches-is : (N : ℕ) (M m : Eighths) (D q : ℕ) → Exactly (Reaches (leftOf D) (rightOf N (M .0 - m .0)) q) (RatioFrom N M m D (fraction q 100))
 reaches-is N M m D q = (λ h. omega (arith, h), λ h. omega (arith, h))
 
 -- "rounded down": the ratio is q hundredths or more, and not q + 1; or it is below 0, and q is 0
@@ -32,7 +32,7 @@ rounded-down N M m D q (inl g) = inl (reaches-is N M m D q .0 (g .holds), λ t. 
 rounded-down N M m D q (inr n) = inr (λ k t. n .0 k (reaches-is N M m D k .1 t), n .1)
 
 -- and at 1,000 it is the annex's for 10
-ten-reaches : (N : ℕ) (M m : Eighths) (D : ℕ) → Exactly (Reaches N (M .0 - m .0) D 1000) (RatioTen N M m D)
+ten-reaches : (N : ℕ) (M m : Eighths) (D : ℕ) → Exactly (Reaches (leftOf D) (rightOf N (M .0 - m .0)) 1000) (RatioTen N M m D)
 ten-reaches N M m D = (λ h. omega (arith, h), λ h. omega (arith, h))
 
 -- Annex A's deviation is a root, and for most pictures no fraction. The annex asks whether r + 1.38 deviations are at most
@@ -62,21 +62,21 @@ module _ (N : ℕ) (M m : Eighths) (D : ℕ) (r s : Fraction) where
           (let whole : 0 < s .denominator * s .denominator = omega (arith, mul-le-mul some some) in whole)
 
 -- the range tests in eighths are the range tests in levels
-pub bright-is : (M : Eighths) → Exactly (BrightInRange M) (Within 170 245 M)
+pub bright-is : (M : Eighths) → Exactly (BrightInRange M) (AverageInRange 170 245 M)
 bright-is M = (λ p. (omega (arith, p), omega (arith, p)), λ p. (omega (arith, p), omega (arith, p)))
 
-pub dark-is : (m : Eighths) → Exactly (DarkInRange m) (Within 10 80 m)
+pub dark-is : (m : Eighths) → Exactly (DarkInRange m) (AverageInRange 10 80 m)
 dark-is m = (λ p. (omega (arith, p), omega (arith, p)), λ p. (omega (arith, p), omega (arith, p)))
 
 -- the ratio is 10 or more exactly where q is 1,000 or more
 pub ten-is : (N : ℕ) (M m : Eighths) (D q : ℕ) → RatioIs N (M .0 - m .0) D q → Exactly (1000 ≤ q) (RatioTen N M m D)
 ten-is N M m D q r = (λ p. ten-reaches N M m D .0 (to r p), λ t. of r (ten-reaches N M m D .1 t))
   where
-    to : RatioIs N (M .0 - m .0) D q → 1000 ≤ q → Reaches N (M .0 - m .0) D 1000
-    to (inl g) p = reaches-falls N (M .0 - m .0) D 1000 q p (g .holds)
+    to : RatioIs N (M .0 - m .0) D q → 1000 ≤ q → Reaches (leftOf D) (rightOf N (M .0 - m .0)) 1000
+    to (inl g) p = reaches-falls (leftOf D) (rightOf N (M .0 - m .0)) 1000 q p (g .holds)
     to (inr n) p = absurd (omega (arith, n .1))
 
-    of : RatioIs N (M .0 - m .0) D q → Reaches N (M .0 - m .0) D 1000 → 1000 ≤ q
+    of : RatioIs N (M .0 - m .0) D q → Reaches (leftOf D) (rightOf N (M .0 - m .0)) 1000 → 1000 ≤ q
     of (inl g) h = g .most 1000 h
     of (inr n) h = absurd (n .0 1000 h)
 
@@ -134,7 +134,7 @@ module _ (levels : List ℕ) (w h : ℕ) (output work : List ℕ) (r : Measureme
   number = r .verdict .number
 
   abbrev filtered : List ℕ
-  filtered = eighths w h levels
+  filtered = passThree w h levels
 
   pub measured-discarded-exactly : Exactly (Discarded number) (Unfit (w * h) (bright w h filtered) (dark w h filtered) (d .judged .spread)) × ((number ≡ 0) ⊎ Discarded number)
   measured-discarded-exactly = judged-discarded-exactly levels filtered w h (r .verdict) (d .judged)

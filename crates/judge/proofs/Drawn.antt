@@ -8,8 +8,8 @@ use native.Mathlib.Nat.{mul-le-mul-right, div-lt-iff-lt-mul, div-add-mod', mod-l
 use native.Mathlib.Decide.{decLe}
 use native.Mathlib.Omega.{arith}
 use lib.ListN.{length, getD, take, drop, length-take, length-drop}
-use Rattle.numbers.proofs.Order.{row-end}
-use Rattle.numbers.proofs.Lists.{length-joined, joined-at, part-at}
+use Rattle.arithmetic.proofs.Order.{row-end}
+use Rattle.arithmetic.proofs.Lists.{length-joined, joined-at, part-at}
 use Rattle.judge.specs.Extremes.{maximum, minimum, tile}
 use Rattle.judge.specs.Measure.{ByFour}
 

@@ -7,16 +7,16 @@ use mathlib.Core.Option.{Option, none, Option·map, get}
 use Prim.Native.Nat.{ℕ, _+_, _-_, _*_, _^_}
 use native.Mathlib.Nat.{not-le-of-lt}
 use native.Mathlib.Decide.{decLe, decLt, ℕ-discrete}
-use Rattle.numbers.specs.Lists.{joined}
-use Rattle.numbers.specs.Sums.{sum}
-use Rattle.numbers.proofs.Greatest.{by-neighbours}
-use Rattle.numbers.proofs.Computed.{when, unless, EveryRow, every-row}
+use Rattle.arithmetic.specs.Lists.{joined}
+use Rattle.arithmetic.specs.Sums.{sum}
+use Rattle.arithmetic.proofs.Greatest.{by-neighbours}
+use Rattle.arithmetic.proofs.Computed.{when, unless, EveryRow, every-row}
 use Rattle.units.specs.Units.{eighths}
 use Rattle.judge.specs.declared.Verdict.{Verdict}
 use Rattle.judge.specs.Extremes.{maximum, minimum, tile, overTiles}
-use Rattle.judge.specs.Judge.{InRange, Rated, verdict, refused, JudgeIs}
+use Rattle.judge.specs.Judge.{InRange, Rated, verdict, refused, JudgeIs, leftOf, rightOf}
 use Rattle.judge.proofs.Ratios.{reaches-falls}
-use Rattle.judge.proofs.Verdicts.{one-verdict}
+use Rattle.judge.proofs.Outcomes.{one-judge}
 
 -- ---- a row of the table: what the judge is given, and what comes back
 pub record Row : Type 0 where
@@ -42,15 +42,15 @@ module _ (N M m D n q : ℕ) where
   back k = Option·map (λ p i. verdict (p .0 i) (p .1 i)) (when (Dec·and (ℕ-discrete n k) (ℕ-discrete q 0)))
 
   abbrev left : ℕ → ℕ
-  left k = (k + 138) * (k + 138) * 256 * D
+  left k = (k + 138) * (k + 138) * leftOf D
 
   abbrev right : ℕ
-  right = 10000 * ((M - m) * (M - m)) * (N * N)
+  right = rightOf N (M - m)
 
   rated : Option (Rated N (eighths M) (eighths m) D (verdict n q))
   rated = elim (Dec·and (decLe (left q) right) (decLt right (left (q + 1)))) [
     | yes p ↦
-        Option·map (λ number. record { ratio = inl (by-neighbours (reaches-falls N (M - m) D) (p .0) (not-le-of-lt (p .1))); number = number })
+        Option·map (λ number. record { ratio = inl (by-neighbours (reaches-falls (leftOf D) right) (p .0) (not-le-of-lt (p .1))); number = number })
         (unless (decLe 1000 q) (when (ℕ-discrete n 9)) (when (ℕ-discrete n 0)))
     | no f ↦ none
   ]
@@ -70,7 +70,7 @@ Holds r = (v : Verdict) → JudgeIs (r .count) (eighths (r .bright)) (eighths (r
 unfoldable pub holds : (r : Row) → Option (Holds r)
 unfolding decLe decLt ℕ-discrete Dec·and Dec·not when unless in-range back rated permitted
 holds r =
-    Option·map (λ p v is. one-verdict (r .count) (eighths (r .bright)) (eighths (r .dark)) (r .spread) v (verdict (r .number) (r .ratio)) is p)
+    Option·map (λ p v is. one-judge (r .count) (eighths (r .bright)) (eighths (r .dark)) (r .spread) v (verdict (r .number) (r .ratio)) is p)
     (permitted (r .count) (r .bright) (r .dark) (r .spread) (r .number) (r .ratio))
 
 -- N, M, m and D, then the number and q: the greatest q that is discarded; one that comes out otherwise where products wrap at 64

@@ -7,8 +7,8 @@ use Prim.Native.Nat.{ℕ, _-_, _*_, _^_, _≤_}
 use native.Mathlib.Nat.{mul-le-mul}
 use native.Mathlib.Omega.{arith}
 use lib.IntN.{pos}
-use Rattle.numbers.specs.Refusals.{Unless}
-use Rattle.numbers.proofs.Refusals.{goes-on, carried}
+use Rattle.answers.specs.Refusals.{Unless}
+use Rattle.answers.proofs.Refusals.{goes-on, carried}
 use Rattle.units.specs.Units.{eighths}
 use Rattle.units.specs.declared.Eighths.{Eighths}
 use Rattle.picture.proofs.Shapes.{pixels}

@@ -1,11 +1,11 @@
 pub mod Maxima
 pub mod Tiles
 pub mod Spreads
-pub mod Places
+pub mod Digits
 pub mod Ratios
 pub mod Judging
 pub mod Measuring
-pub mod Verdicts
+pub mod Outcomes
 pub mod Discarding
 pub mod Drawn
 pub mod Examples

@@ -7,7 +7,7 @@ use native.Mathlib.Numerals.{add-one}
 use native.Mathlib.Omega.{arith}
 use lib.ListN.{length, getD, drop, drop-of-length-le}
 use lib.Seq.{drop-cons}
-use Rattle.numbers.specs.Lists.{AtMost}
+use Rattle.arithmetic.specs.Lists.{AtMost}
 use Rattle.judge.specs.Extremes.{maximum, minimum}
 
 module _ (f : ℕ → ℕ → ℕ) (row : List ℕ) (i : ℕ) where

@@ -4,9 +4,9 @@ use mathlib.Core.List.{List}
 use Prim.Native.Nat.{ℕ, _*_}
 use lib.ListN.{length, take, drop}
 use lib.Seq.{take-at}
-use Rattle.numbers.specs.Refusals.{Unless}
-use Rattle.numbers.proofs.Refusals.{stops, goes-on, carried}
-use Rattle.filter.specs.Filter.{eighths, Sized, outcome, Filtered, FilterIs}
+use Rattle.answers.specs.Refusals.{Unless}
+use Rattle.answers.proofs.Refusals.{stops, goes-on, carried}
+use Rattle.filter.specs.Filter.{passThree, Sized, outcome, Filtered, FilterIs}
 use Rattle.picture.proofs.Shapes.{passes-both}
 use Rattle.filter.proofs.Outcomes.{Fits, when-fits}
 use Rattle.judge.specs.declared.Verdict.{Verdict}
@@ -37,8 +37,8 @@ module _ (levels : List ℕ) (w h : ℕ) (output work : List ℕ) where
       filtered : Filtered levels w h output work (outcome n output' work')
       filtered = when-fits levels w h output work (outcome n output' work') f promise
 
-      starts : take (w * h) output' ≡ eighths w h levels
-      starts = ap (take (w * h)) (filtered .pass-three) ∙ take-at (eighths w h levels) (drop (w * h) output) (w * h) (filtered .long)
+      starts : take (w * h) output' ≡ passThree w h levels
+      starts = ap (take (w * h)) (filtered .pass-three) ∙ take-at (passThree w h levels) (drop (w * h) output) (w * h) (filtered .long)
 
       pub tiled : Tiled w h (take (w * h) output')
       tiled = rw starts (record { sides = f .shape .sides; by-four = fours; whole = filtered .long; small = filtered .most })

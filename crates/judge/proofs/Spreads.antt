@@ -9,14 +9,14 @@ use native.Mathlib.Numerals.{add-one}
 use native.Mathlib.Omega.{arith}
 use lib.IntN.{pos, _-ℤ_}
 use lib.ListN.{length, take, drop, length-take, length-drop}
-use Rattle.numbers.specs.Signed.{natOf, square}
-use Rattle.numbers.specs.Lists.{AtMost}
-use Rattle.numbers.specs.Sums.{sum}
-use Rattle.numbers.proofs.Order.{le-or-lt}
-use Rattle.numbers.proofs.Differences.{pos-minus, sub-pos, sub-neg}
-use Rattle.numbers.proofs.Lists.{part-at, most-take, most-drop}
-use Rattle.numbers.proofs.Sums.{sum-none, sum-more, sum-goes-on, square-of-sum}
-use Rattle.numbers.proofs.SignedSums.{sum-natural, sum-minus}
+use Rattle.arithmetic.specs.Signed.{natOf, square}
+use Rattle.arithmetic.specs.Lists.{AtMost}
+use Rattle.arithmetic.specs.Sums.{sum}
+use Rattle.arithmetic.proofs.Order.{le-or-lt}
+use Rattle.arithmetic.proofs.Differences.{pos-minus, sub-pos, sub-neg}
+use Rattle.arithmetic.proofs.Lists.{part-at, most-take, most-drop}
+use Rattle.arithmetic.proofs.Sums.{sum-none, sum-more, sum-goes-on, square-of-sum}
+use Rattle.arithmetic.proofs.SignedSums.{sum-natural, sum-minus}
 use Rattle.judge.specs.Noise.{difference, spreadOf}
 use Rattle.judge.specs.Asked.{SamePixels, dist, light, flat, gap, Sums}
 

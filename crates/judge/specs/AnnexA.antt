@@ -4,8 +4,8 @@
 use mathlib.Core.Path.{_≡_}
 use mathlib.Core.Logic.{_⊎_}
 use Prim.Native.Nat.{ℕ, _+_, _-_, _*_, _≤_}
-use Rattle.numbers.specs.declared.Fraction.{Fraction}
-use Rattle.numbers.specs.Fractions.{fraction, NotMore}
+use Rattle.arithmetic.specs.declared.Fraction.{Fraction}
+use Rattle.arithmetic.specs.Fractions.{fraction, NotMore}
 use Rattle.units.specs.declared.Eighths.{Eighths}
 
 abbrev pub plus : Fraction → Fraction → Fraction
@@ -22,10 +22,10 @@ abbrev pub average : Eighths → Fraction
 average s = fraction (s .0) 128
 
 -- "the averages must satisfy 170 ≤ bright ≤ 245 and 10 ≤ dark ≤ 80"
-abbrev pub Within : ℕ → ℕ → Eighths → Type 0
-Within low high s = NotMore (fraction low 1) (average s) × NotMore (average s) (fraction high 1)
+abbrev pub AverageInRange : ℕ → ℕ → Eighths → Type 0
+AverageInRange low high s = NotMore (fraction low 1) (average s) × NotMore (average s) (fraction high 1)
 
--- bright − dark (where both are within their ranges bright is the greater)
+-- "(bright − dark)": the average of the maxima less that of the minima (where both are in range the first is the greater)
 abbrev pub span : Eighths → Eighths → Fraction
 span M m = fraction (M .0 - m .0) 128
 
@@ -45,7 +45,7 @@ RatioTen N M m D = RatioFrom N M m D (fraction 10 1)
 
 -- a stated range is left, the noise is nil or the ratio is below 10
 abbrev pub Unfit : ℕ → Eighths → Eighths → ℕ → Type 0
-Unfit N M m D = (¬ Within 170 245 M) ⊎ ((¬ Within 10 80 m) ⊎ ((D ≡ 0) ⊎ (¬ RatioTen N M m D)))
+Unfit N M m D = (¬ AverageInRange 170 245 M) ⊎ ((¬ AverageInRange 10 80 m) ⊎ ((D ≡ 0) ⊎ (¬ RatioTen N M m D)))
 
 -- the number says that the picture is discarded
 abbrev pub Discarded : ℕ → Type 0

@@ -3,48 +3,48 @@ use mathlib.Core.Path.{_≡_}
 use mathlib.Core.List.{List}
 use Prim.Native.Nat.{ℕ, _+_, _-_, _*_, _≤_}
 use lib.ListN.{length, getD, take, drop}
-use Rattle.numbers.specs.Lists.{AtMost, joined}
-use Rattle.numbers.specs.Sums.{sum}
+use Rattle.arithmetic.specs.Lists.{AtMost, joined}
+use Rattle.arithmetic.specs.Sums.{sum}
 use Rattle.picture.specs.Picture.{Side}
 use Rattle.judge.specs.Measure.{ByFour}
 
 -- a filtered picture that can be cut into tiles
-pub record Tiled (w h : ℕ) (x : List ℕ) : Type 0 where
+pub record Tiled (w h : ℕ) (filtered : List ℕ) : Type 0 where
   pub sides : Side w × Side h
   pub by-four : ByFour w h
-  pub whole : length x ≡ w * h
-  pub small : AtMost 2040 x
+  pub whole : length filtered ≡ w * h
+  pub small : AtMost 2_040 filtered
 
--- the part of a picture x, w to a row, that starts at place `start` and has `high` rows of `wide`, row by row
+-- the part of a filtered picture, w to a row, that starts at place `start` and has `rows` rows of `columns`, row by row
 unfoldable pub part : ℕ → ℕ → ℕ → ℕ → List ℕ → List ℕ
-part w wide high start x = joined high (λ j. take wide (drop (start + j * w) x))
+part w columns rows start filtered = joined rows (λ j. take columns (drop (start + j * w) filtered))
 
 -- the sum of what f makes of four parts side by side
 unfoldable pub bandOf : (List ℕ → ℕ) → ℕ → ℕ → ℕ → ℕ → List ℕ → ℕ
-bandOf f w wide high start x = sum 4 (λ a. f (part w wide high (start + a * wide) x))
+bandOf f w columns rows start filtered = sum 4 (λ a. f (part w columns rows (start + a * columns) filtered))
 
 -- such a part has pixels, and lies in the picture
-pub record Part (w wide high start : ℕ) (x : List ℕ) : Type 0 where
-  pub columns : 1 ≤ wide
-  pub rows : 1 ≤ high
-  pub row-long : w ≤ 1024
-  pub inside : start + (high - 1) * w + wide ≤ length x
-  pub long : length x ≤ 1048576
+pub record Part (w columns rows start : ℕ) (filtered : List ℕ) : Type 0 where
+  pub some-columns : 1 ≤ columns
+  pub some-rows : 1 ≤ rows
+  pub row-long : w ≤ 1_024
+  pub inside : start + (rows - 1) * w + columns ≤ length filtered
+  pub long : length filtered ≤ 1_048_576
 
 -- so do four side by side
-pub record Band (w wide high start : ℕ) (x : List ℕ) : Type 0 where
-  pub columns : 1 ≤ wide
-  pub rows : 1 ≤ high
-  pub four : w ≡ 4 * wide
-  pub row-long : w ≤ 1024
-  pub inside : start + high * w ≤ length x
-  pub long : length x ≤ 1048576
+pub record Band (w columns rows start : ℕ) (filtered : List ℕ) : Type 0 where
+  pub some-columns : 1 ≤ columns
+  pub some-rows : 1 ≤ rows
+  pub four : w ≡ 4 * columns
+  pub row-long : w ≤ 1_024
+  pub inside : start + rows * w ≤ length filtered
+  pub long : length filtered ≤ 1_048_576
 
 -- at most `bound` levels, and the same number of filtered values, each at most 2,040
 pub record SamePixels (bound : ℕ) (levels filtered : List ℕ) : Type 0 where
   pub same : length levels ≡ length filtered
   pub long : length filtered ≤ bound
-  pub small : AtMost 2040 filtered
+  pub small : AtMost 2_040 filtered
 
 -- how far two numbers are apart
 abbrev pub dist : ℕ → ℕ → ℕ
@@ -65,10 +65,6 @@ pub record Sums (levels filtered : List ℕ) (n squares lights flats : ℕ) : Ty
   pub squares-is : squares ≡ sum n (λ k. gap levels filtered k * gap levels filtered k)
   pub lights-is : lights ≡ sum n (light levels)
   pub flats-is : flats ≡ sum n (flat filtered)
-  pub squares-most : squares ≤ n * 4161600
-  pub lights-most : lights ≤ n * 2040
-  pub flats-most : flats ≤ n * 2040
-
--- "(q+138)²·256·D ≤ 10,000·(M−m)²·N²", where 256·D and the right side are known
-abbrev pub Under : ℕ → ℕ → ℕ → Type 0
-Under left right q = (q + 138) * (q + 138) * left ≤ right
+  pub squares-most : squares ≤ n * 4_161_600
+  pub lights-most : lights ≤ n * 2_040
+  pub flats-most : flats ≤ n * 2_040

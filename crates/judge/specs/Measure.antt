@@ -4,8 +4,8 @@ use mathlib.Core.List.{List}
 use Prim.Native.Nat.{ℕ, _*_, _%_}
 use lib.ListN.{length}
 use lib.IntN.{pos}
-use Rattle.numbers.specs.Refusals.{Unless}
-use Rattle.filter.specs.Filter.{eighths, Sized, Filtered, outcome}
+use Rattle.answers.specs.Refusals.{Unless}
+use Rattle.filter.specs.Filter.{passThree, Sized, Filtered, outcome}
 use Rattle.judge.specs.declared.Verdict.{Verdict}
 use Rattle.judge.specs.Extremes.{bright, dark}
 use Rattle.judge.specs.Noise.{spreadOf}
@@ -35,7 +35,7 @@ measurement v output work = record { verdict = v; output = output; work = work }
 -- "buffers filtered": as the filter leaves them where it is done; and the verdict on pass three
 pub record Measured (levels : List ℕ) (w h : ℕ) (output work : List ℕ) (r : Measurement) : Type 0 where
   pub filtered : Filtered levels w h output work (outcome 0 (r .output) (r .work))
-  pub judged : Judged levels (eighths w h levels) w h (r .verdict)
+  pub judged : Judged levels (passThree w h levels) w h (r .verdict)
 
 -- "nothing written" where one of 1 to 4 comes back, or "5 | measuring, a side no multiple of 4"
 abbrev pub MeasureIs : List ℕ → ℕ → ℕ → List ℕ → List ℕ → Measurement → Type 0

@@ -3,8 +3,8 @@ use mathlib.Core.List.{List}
 use Prim.Native.Nat.{ℕ, _*_}
 use lib.ListN.{getD}
 use lib.IntN.{ℤ, pos, _-ℤ_, _*ℤ_}
-use Rattle.numbers.specs.Signed.{square}
-use Rattle.numbers.specs.Sums.{sumℤ}
+use Rattle.arithmetic.specs.Signed.{square}
+use Rattle.arithmetic.specs.Sums.{sumℤ}
 
 -- "d = 8·(original level) − (filtered eighths) at each pixel"
 abbrev pub difference : List ℕ → List ℕ → ℕ → ℤ

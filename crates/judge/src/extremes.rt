@@ -27,19 +27,19 @@ struct Ends {
 }
 
 // M and m of a filtered picture.
-pub(crate) fn of_tiles(x: &[u16], width: usize, height: usize) -> Extremes
-    requires { ⌜ Tiled width height (now x) ⌝ }
-    ensures { λ r. ⌜ (r .bright ≡ bright width height (now (x .entry))) × (r .dark ≡ dark width height (now (x .entry))) ⌝ }
+pub(crate) fn of_tiles(filtered: &[u16], width: usize, height: usize) -> Extremes
+    requires { ⌜ Tiled width height (now filtered) ⌝ }
+    ensures { λ r. ⌜ (r .bright ≡ bright width height (now (filtered .entry))) × (r .dark ≡ dark width height (now (filtered .entry))) ⌝ }
 {
-    let wide = width / 4;
-    let high = height / 4;
-    let band = high * width;
+    let columns = width / 4;
+    let rows = height / 4;
+    let band = rows * width;
     let mut bright = 0u64;
     let mut dark = 0u64;
     let mut at = 0usize;
     let mut b = 0usize;
     while b < 4 {
-        let totals = band_totals(x, width, wide, high, at);
+        let totals = band_totals(filtered, width, columns, rows, at);
         bright += totals.bright;
         dark += totals.dark;
         at += band;
@@ -52,38 +52,38 @@ pub(crate) fn of_tiles(x: &[u16], width: usize, height: usize) -> Extremes
 }
 
 // The sums over a band: four tiles side by side, of which the first starts at `start`.
-fn band_totals(x: &[u16], width: usize, wide: usize, high: usize, start: usize) -> Totals
-    requires { ⌜ Band width wide high start (now x) ⌝ }
-    ensures { λ r. ⌜ (r .bright ≡ bandOf maximum width wide high start (now (x .entry))) × (r .bright ≤ 262140) ⌝ }
-    ensures { λ r. ⌜ (r .dark ≡ bandOf minimum width wide high start (now (x .entry))) × (r .dark ≤ 262140) ⌝ }
+fn band_totals(filtered: &[u16], width: usize, columns: usize, rows: usize, start: usize) -> Totals
+    requires { ⌜ Band width columns rows start (now filtered) ⌝ }
+    ensures { λ r. ⌜ (r .bright ≡ bandOf maximum width columns rows start (now (filtered .entry))) × (r .bright ≤ 262_140) ⌝ }
+    ensures { λ r. ⌜ (r .dark ≡ bandOf minimum width columns rows start (now (filtered .entry))) × (r .dark ≤ 262_140) ⌝ }
 {
     let mut bright = 0u64;
     let mut dark = 0u64;
     let mut at = start;
     let mut a = 0usize;
     while a < 4 {
-        let ends = part_ends(x, width, wide, high, at);
+        let ends = part_ends(filtered, width, columns, rows, at);
         bright += ends.most as u64;
         dark += ends.least as u64;
-        at += wide;
+        at += columns;
         a += 1;
     }
     Totals { bright, dark }
 }
 
-// The greatest and the least value of a tile: the part that starts at `start` and has `high` rows of
-// `wide`.
-fn part_ends(x: &[u16], width: usize, wide: usize, high: usize, start: usize) -> Ends
-    requires { ⌜ Part width wide high start (now x) ⌝ }
-    ensures { λ r. ⌜ (r .most ≡ maximum (part width wide high start (now (x .entry)))) × (r .least ≡ minimum (part width wide high start (now (x .entry)))) ⌝ }
+// The greatest and the least value of a tile: the part that starts at `start` and has `rows` rows of
+// `columns` values.
+fn part_ends(filtered: &[u16], width: usize, columns: usize, rows: usize, start: usize) -> Ends
+    requires { ⌜ Part width columns rows start (now filtered) ⌝ }
+    ensures { λ r. ⌜ (r .most ≡ maximum (part width columns rows start (now (filtered .entry)))) × (r .least ≡ minimum (part width columns rows start (now (filtered .entry)))) ⌝ }
 {
     let mut most = 0u16;
-    let mut least = 65535u16;
+    let mut least = 65_535u16;
     let mut at = start;
     let mut j = 0usize;
-    while j < high {
-        let end = at + wide;
-        let ends = row_ends(&x[at..end], most, least);
+    while j < rows {
+        let end = at + columns;
+        let ends = row_ends(&filtered[at..end], most, least);
         most = ends.most;
         least = ends.least;
         at += width;

@@ -8,7 +8,7 @@ ghost use Rattle.units.specs.Units.{eighths};
 ghost use Rattle.judge.specs.Judge.{Tested, JudgeIs, refused};
 ghost use Rattle.judge.specs.Measure.{Judged, MeasureIs, measurement};
 ghost use Rattle.judge.specs.Asked.{Tiled};
-use numbers::table;
+use answers::table;
 use units::Eighths;
 
 mod extremes;
@@ -45,6 +45,7 @@ pub fn measure(
     if height % 4 != 0 {
         return refuse(table::SIDE_NOT_BY_FOUR);
     }
+    // its number is 0: the sizes that it could refuse have been tested
     filter::filter(levels, width, height, output, work);
     let n = width * height;
     judge_picture(levels, &output[..n], width, height)
@@ -73,7 +74,7 @@ pub fn judge(count: u64, bright: Eighths, dark: Eighths, spread: u64) -> Verdict
         return refuse(number);
     }
     let q = ratio::ratio(count, eighths_bright - eighths_dark, spread);
-    if q < 1000 {
+    if q < 1_000 {
         return Verdict {
             number: table::LOW_RATIO,
             ratio: q,
@@ -92,28 +93,28 @@ fn ranges(count: u64, bright: u64, dark: u64, spread: u64) -> u8
     if count < 1 {
         return table::INPUT_OUT_OF_RANGE;
     }
-    if 1048576 < count {
+    if 1_048_576 < count {
         return table::INPUT_OUT_OF_RANGE;
     }
-    if 32640 < bright {
+    if 32_640 < bright {
         return table::INPUT_OUT_OF_RANGE;
     }
-    if 32640 < dark {
+    if 32_640 < dark {
         return table::INPUT_OUT_OF_RANGE;
     }
-    if 4611686018427387904 < spread {
+    if 4_611_686_018_427_387_904 < spread {
         return table::INPUT_OUT_OF_RANGE;
     }
-    if bright < 21760 {
+    if bright < 21_760 {
         return table::BRIGHT_OUT_OF_RANGE;
     }
-    if 31360 < bright {
+    if 31_360 < bright {
         return table::BRIGHT_OUT_OF_RANGE;
     }
-    if dark < 1280 {
+    if dark < 1_280 {
         return table::DARK_OUT_OF_RANGE;
     }
-    if 10240 < dark {
+    if 10_240 < dark {
         return table::DARK_OUT_OF_RANGE;
     }
     if spread == 0 {

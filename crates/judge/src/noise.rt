@@ -17,8 +17,8 @@ struct ThreeSums {
 
 // D of a picture and what it was filtered to.
 pub(crate) fn spread(levels: &[u8], filtered: &[u16]) -> u64
-    requires { ⌜ SamePixels 1048576 (now levels) (now filtered) ⌝ }
-    ensures { λ r. ⌜ (pos r ≡ spreadOf (length (now (filtered .entry))) (now (levels .entry)) (now (filtered .entry))) × (r ≤ 4611686018427387904) ⌝ }
+    requires { ⌜ SamePixels 1_048_576 (now levels) (now filtered) ⌝ }
+    ensures { λ r. ⌜ (pos r ≡ spreadOf (length (now (filtered .entry))) (now (levels .entry)) (now (filtered .entry))) × (r ≤ 4_611_686_018_427_387_904) ⌝ }
 {
     let n = filtered.len();
     let mut squares = 0u64;
@@ -26,7 +26,7 @@ pub(crate) fn spread(levels: &[u8], filtered: &[u16]) -> u64
     let mut flats = 0u64;
     let mut at = 0usize;
     while at < n {
-        let end = smaller(at + 1024, n);
+        let end = smaller(at + 1_024, n);
         let added = stretch(&levels[at..end], &filtered[at..end]);
         squares += added.squares as u64;
         lights += added.lights as u64;
@@ -40,7 +40,7 @@ pub(crate) fn spread(levels: &[u8], filtered: &[u16]) -> u64
 // The sums over a stretch of at most 1,024 pixels, which have room in 32 bits: so the compiler takes
 // four pixels at once.
 fn stretch(levels: &[u8], filtered: &[u16]) -> ThreeSums
-    requires { ⌜ SamePixels 1024 (now levels) (now filtered) ⌝ }
+    requires { ⌜ SamePixels 1_024 (now levels) (now filtered) ⌝ }
     ensures { λ r. ⌜ Sums (now (levels .entry)) (now (filtered .entry)) (length (now (filtered .entry))) (r .squares) (r .lights) (r .flats) ⌝ }
 {
     let mut squares = 0u32;
@@ -64,7 +64,7 @@ fn stretch(levels: &[u8], filtered: &[u16]) -> ThreeSums
 }
 
 fn eight_times(level: u8) -> u16
-    ensures { λ r. ⌜ (r ≡ 8 * level) × (r ≤ 2040) ⌝ }
+    ensures { λ r. ⌜ (r ≡ 8 * level) × (r ≤ 2_040) ⌝ }
 {
     8 * (level as u16)
 }

@@ -1,17 +1,16 @@
 // The ratio (document 01: "q, the greatest whole number from 0 with (q+138)²·256·D ≤ 10,000·(M−m)²·N²,
-// and 0 where there is none"). Both sides outgrow 64 bits, so they are compared place by place.
+// and 0 where there is none"). Both sides outgrow 64 bits, so they are compared digit by digit.
 ghost use mathlib.Core.Path.{_≡_};
 ghost use Prim.Native.Nat.{_+_, _-_, _*_, _^_, _<_, _≤_};
-ghost use Rattle.numbers.specs.Greatest.{Greatest, Between};
+ghost use Rattle.arithmetic.specs.Greatest.{Greatest, Between};
 ghost use lib.Dec.{leb};
-ghost use Rattle.judge.specs.Judge.{RatioIs};
+ghost use Rattle.judge.specs.Judge.{Reaches, RatioIs};
 ghost use Rattle.judge.specs.Wide.{value};
-ghost use Rattle.judge.specs.Asked.{Under};
 use crate::wide;
 
 // The ratio in hundredths, rounded down, from N, M − m and D.
 pub(crate) fn ratio(count: u64, span: u64, spread: u64) -> u64
-    requires { ⌜ (count ≤ 1048576) × (span ≤ 32640) × (1 ≤ spread) × (spread ≤ 4611686018427387904) ⌝ }
+    requires { ⌜ (count ≤ 1_048_576) × (span ≤ 32_640) × (1 ≤ spread) × (spread ≤ 4_611_686_018_427_387_904) ⌝ }
     ensures { λ r. ⌜ RatioIs count span spread r ⌝ }
 {
     // the right side is this product's square
@@ -31,8 +30,8 @@ pub(crate) fn ratio(count: u64, span: u64, spread: u64) -> u64
 
 // A power of two, the greatest whose square is at most d.
 fn power_below_root(d: u64) -> u64
-    requires { ⌜ (1 ≤ d) × (d ≤ 4611686018427387904) ⌝ }
-    ensures { λ r. ⌜ (1 ≤ r) × (r ≤ 2147483648) × (r * r ≤ d) × (d < 4 * (r * r)) ⌝ }
+    requires { ⌜ (1 ≤ d) × (d ≤ 4_611_686_018_427_387_904) ⌝ }
+    ensures { λ r. ⌜ (1 ≤ r) × (r ≤ 2_147_483_648) × (r * r ≤ d) × (d < 4 * (r * r)) ⌝ }
 {
     let mut power = 1u64;
     let mut rest = d;
@@ -43,17 +42,17 @@ fn power_below_root(d: u64) -> u64
     power
 }
 
-fn less_138(x: u64) -> u64
-    ensures { λ r. ⌜ r ≡ x - 138 ⌝ }
+fn less_138(n: u64) -> u64
+    ensures { λ r. ⌜ r ≡ n - 138 ⌝ }
 {
-    if x < 138 { 0 } else { x - 138 }
+    if n < 138 { 0 } else { n - 138 }
 }
 
 // The greatest q with (q+138)²·left at most right, which lies from lo to below hi: recursive halving
 // of that interval, whose width falls.
 fn halve(left: [u16; 10], right: [u16; 10], lo: u64, hi: u64) -> u64
-    requires { ⌜ Between (Under (value left 10) (value right 10)) lo hi × (hi ≤ 2 ^ 42) × (value left 10 ≤ 2 ^ 70) ⌝ }
-    ensures { λ r. ⌜ Greatest (Under (value left 10) (value right 10)) r ⌝ }
+    requires { ⌜ Between (Reaches (value left 10) (value right 10)) lo hi × (hi ≤ 2 ^ 42) × (value left 10 ≤ 2 ^ 70) ⌝ }
+    ensures { λ r. ⌜ Greatest (Reaches (value left 10) (value right 10)) r ⌝ }
 {
     if hi - lo <= 1 {
         return lo;
@@ -71,7 +70,7 @@ fn reaches(left: [u16; 10], right: [u16; 10], q: u64) -> bool
     requires { ⌜ (q ≤ 2 ^ 42) × (value left 10 ≤ 2 ^ 70) ⌝ }
     ensures { λ r. ⌜ r ≡ leb ((q + 138) * (q + 138) * value left 10) (value right 10) ⌝ }
 {
-    let x = q + 138;
-    let once = wide::times(left, x);
-    wide::at_most(wide::times(once, x), right)
+    let sum = q + 138;
+    let once = wide::times(left, sum);
+    wide::at_most(wide::times(once, sum), right)
 }

@@ -8,12 +8,13 @@ use Prim.Native.Nat.{ℕ, _+_, _*_, _<_, _≤_}
 use native.Mathlib.Nat.{not-le-of-lt}
 use native.Mathlib.Decide.{decLe, decLt, ℕ-discrete}
 use lib.IntN.{pos}
-use Rattle.numbers.proofs.Greatest.{by-neighbours}
-use Rattle.numbers.proofs.Computed.{when, EveryRow, every-row}
+use Rattle.arithmetic.proofs.Greatest.{by-neighbours}
+use Rattle.arithmetic.proofs.Computed.{when, EveryRow, every-row}
 use Rattle.units.specs.Units.{sixteenths, picometres}
 use Rattle.length.specs.declared.Sharpness.{Sharpness}
 use Rattle.length.specs.Length.{sharpness, LengthIs}
-use Rattle.length.proofs.Laws.{falling, Ranged, is-the-length, one-answer}
+use Rattle.length.proofs.Laws.{falling, Ranged, is-the-length}
+use Rattle.length.proofs.Outcomes.{one-length}
 
 -- ---- a row of the table: a factor and a pixel size, and what comes back
 pub record Row : Type 0 where
@@ -38,7 +39,7 @@ module _ (f p n q : ℕ) where
       × ((n ≡ 0) × ((512 * (q * q) ≤ p * f * (p * f)) × (p * f * (p * f) < 512 * ((q + 1) * (q + 1)))))
 
   pub only : Tests → Holds (row f p n q)
-  only t s is = one-answer (sixteenths (pos f)) (picometres p) s (sharpness n q) is permitted
+  only t s is = one-length (sixteenths (pos f)) (picometres p) s (sharpness n q) is permitted
     where
       ranged : Ranged f p
       ranged = record { factor-low = t .0 .0; factor-high = t .0 .1 .0; pixel-low = t .0 .1 .1 .0; pixel-high = t .0 .1 .1 .1 }

@@ -1,18 +1,18 @@
--- Laws of the definition: what halving finds in ℕ is the document's length, and the answer is determined. Assumes nothing.
+-- Laws of the definition: what halving finds in ℕ is the document's length. Assumes nothing.
 use mathlib.Core.Path.{_≡_, ap, _∙_}
 use Prim.Native.Nat.{ℕ, _+_, _*_, _/_, _≤_}
 use native.Mathlib.Nat.{mul-le-mul, mul-le-mul-left, le-trans, lt-of-not-le}
 use native.Mathlib.Omega.{arith}
 use lib.IntN.{pos}
-use Rattle.numbers.specs.Greatest.{Greatest, Between}
-use Rattle.numbers.specs.Signed.{natOf}
-use Rattle.numbers.proofs.Order.{to-ℤ, of-ℤ, low-natural, high-natural, positive}
-use Rattle.numbers.proofs.Refusals.{goes-on, alike, together}
-use Rattle.numbers.proofs.Greatest.{Falling, one-greatest, next-has-not, reworded}
+use Rattle.arithmetic.specs.Greatest.{Greatest, Between}
+use Rattle.arithmetic.specs.Signed.{natOf}
+use Rattle.arithmetic.proofs.Order.{to-ℤ, of-ℤ, low-natural, high-natural, positive}
+use Rattle.answers.proofs.Refusals.{goes-on}
+use Rattle.arithmetic.proofs.Greatest.{Falling, next-has-not, reworded}
 use Rattle.units.specs.declared.Sixteenths.{Sixteenths}
 use Rattle.units.specs.declared.Picometres.{Picometres}
 use Rattle.length.specs.declared.Sharpness.{Sharpness}
-use Rattle.length.specs.Length.{InRange, Reaches, Done, sharpness, LengthIs}
+use Rattle.length.specs.Length.{InRange, NotLonger, Done, sharpness, LengthIs}
 
 -- what is at most t stays so for each smaller number
 pub falling : (t : ℕ) → Falling (λ q. 512 * (q * q) ≤ t)
@@ -49,7 +49,7 @@ module _ (s : Sixteenths) (p : Picometres) (ok : Ranged (natOf (s .0)) (p .0)) w
         pixel-high = ok .pixel-high;
       }
 
-  greatest : {q : ℕ} → Greatest (λ k. 512 * (k * k) ≤ p .0 * natOf (s .0) * (p .0 * natOf (s .0))) q → Greatest (Reaches s p) q
+  greatest : {q : ℕ} → Greatest (λ k. 512 * (k * k) ≤ p .0 * natOf (s .0) * (p .0 * natOf (s .0))) q → Greatest (NotLonger s p) q
   greatest g = rw whole (reworded (λ (k : ℕ) h. to-ℤ h) (λ (k : ℕ) h. of-ℤ h) g)
 
   pub is-the-length : (r : Sharpness) → r .number ≡ 0 → Greatest (λ k. 512 * (k * k) ≤ p .0 * natOf (s .0) * (p .0 * natOf (s .0))) (r .length .0) → LengthIs s p r
@@ -78,11 +78,5 @@ pub same-answer : {r r' : Sharpness} → r .number ≡ r' .number → r .length 
 same-answer {r} {r'} number length = ap (λ (n : ℕ). sharpness n (r .length .0)) number ∙ ap (sharpness (r' .number)) length
 
 -- the length is rounded down: q picometres are at most the sharpness, and q + 1 are not
-pub rounded-down : (s : Sixteenths) (p : Picometres) (r : Sharpness) → Done s p r → Reaches s p (r .length .0) × (¬ Reaches s p (r .length .0 + 1))
+pub rounded-down : (s : Sixteenths) (p : Picometres) (r : Sharpness) → Done s p r → NotLonger s p (r .length .0) × (¬ NotLonger s p (r .length .0 + 1))
 rounded-down s p r done = (done .length .holds, next-has-not (done .length))
-
--- any two outcomes that the promise permits are equal
-pub one-answer : (s : Sixteenths) (p : Picometres) (r r' : Sharpness) → LengthIs s p r → LengthIs s p r' → r ≡ r'
-one-answer s p r r' = together
-    alike
-    (λ (g : Done s p r) (h : Done s p r'). same-answer (alike (g .number) (h .number)) (one-greatest (g .length) (h .length)))

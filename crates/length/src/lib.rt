@@ -1,9 +1,9 @@
 // The length of a sharpness (document 01, "Length"): the sharpness factor over the square root of 2.
 ghost use mathlib.Core.Path.{_≡_};
 ghost use Prim.Native.Nat.{_*_, _≤_};
-ghost use Rattle.numbers.specs.Greatest.{Greatest, Between};
+ghost use Rattle.arithmetic.specs.Greatest.{Greatest, Between};
 ghost use Rattle.length.specs.Length.{LengthIs, refused};
-use numbers::table;
+use answers::table;
 use units::Picometres;
 use units::Sixteenths;
 
@@ -18,18 +18,18 @@ pub struct Sharpness {
 pub fn length(factor: Sixteenths, pixel: Picometres) -> Sharpness
     ensures { λ r. ⌜ LengthIs factor pixel r ⌝ }
 {
-    let s = numbers::natural(factor.amount());
+    let s = arithmetic::natural(factor.amount());
     let p = pixel.amount();
     if s < 1 {
         return refuse();
     }
-    if 16384 < s {
+    if 16_384 < s {
         return refuse();
     }
     if p < 1 {
         return refuse();
     }
-    if 100000 < p {
+    if 100_000 < p {
         return refuse();
     }
     // 16 times the square root of 2 lies between 22 and 23, so the length lies from a 23rd of the
@@ -46,7 +46,7 @@ fn refuse() -> Sharpness
     ensures { λ r. ⌜ r ≡ refused 14 ⌝ }
 {
     Sharpness {
-        number: table::LENGTH_OUT_OF_RANGE,
+        number: table::FACTOR_OR_PIXEL_OUT_OF_RANGE,
         length: Picometres::of(0),
     }
 }
@@ -54,7 +54,7 @@ fn refuse() -> Sharpness
 // The greatest q with 512·q² at most t, which lies from lo to below hi: recursive halving of that
 // interval, whose width falls. Up to 2^27, 512·q² has room in 64 bits.
 fn halve(t: u64, lo: u64, hi: u64) -> u64
-    requires { ⌜ Between (λ q. 512 * (q * q) ≤ t) lo hi × (hi ≤ 134217728) ⌝ }
+    requires { ⌜ Between (λ q. 512 * (q * q) ≤ t) lo hi × (hi ≤ 134_217_728) ⌝ }
     ensures { λ r. ⌜ Greatest (λ q. 512 * (q * q) ≤ t) r ⌝ }
 {
     if hi - lo <= 1 {

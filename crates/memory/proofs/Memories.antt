@@ -7,9 +7,9 @@ use Prim.Native.Nat.{ℕ, _+_, _-_, _≤_, _<_}
 use native.Mathlib.Omega.{arith}
 use lib.ListN.{length, getD, take, drop, set, length-append, length-take, length-drop, length-replicate, getD-replicate}
 use lib.Seq.{take-at, drop-drop}
-use Rattle.numbers.specs.Lists.{AtMost}
-use Rattle.numbers.specs.Refusals.{Unless}
-use Rattle.numbers.proofs.Refusals.{stops, goes-on}
+use Rattle.arithmetic.specs.Lists.{AtMost}
+use Rattle.answers.specs.Refusals.{Unless}
+use Rattle.answers.proofs.Refusals.{stops, goes-on}
 use Rattle.picture.specs.Picture.{Side}
 use Rattle.memory.specs.Memory.{widthOf, heightOf, rowsOf, memory, zeros, twoOf, Ranges, Begun}
 use Rattle.memory.proofs.Places.{part-row}
@@ -54,8 +54,8 @@ length-rows held long = simp (length-take, length-drop) (omega arith)
 pub begun-told : (held : List ℕ) (t : Bool) → 6147 ≤ length held → Side (widthOf held) → Side (heightOf held)
     → Unless (Ranges (widthOf held) (take (6147 - 3) (drop 3 held))) (t ≡ false) (t ≡ true) → Unless (Begun held) (t ≡ false) (t ≡ true)
 unfolding rowsOf
-begun-told held t long wide high (inl out) = stops (λ b. out .0 (b .ranges)) (out .1)
-begun-told held t long wide high (inr ranges) = goes-on (record { long = long; wide = wide; high = high; ranges = ranges .0 }) (ranges .1)
+begun-told held t long width height (inl out) = stops (λ b. out .0 (b .ranges)) (out .1)
+begun-told held t long width height (inr ranges) = goes-on (record { long = long; width = width; height = height; ranges = ranges .0 }) (ranges .1)
 
 -- its three numbers, set one after the other before rows that came back
 all-set : (w h k : ℕ) (held rows past : List ℕ) → 3 ≤ length held

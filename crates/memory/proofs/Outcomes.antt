@@ -4,8 +4,8 @@ use mathlib.Core.Bool.{Bool, true, false}
 use mathlib.Core.List.{List}
 use Prim.Native.Nat.{ℕ, _≤_}
 use lib.ListN.{length, drop}
-use Rattle.numbers.specs.Refusals.{Unless}
-use Rattle.numbers.proofs.Refusals.{alike, together, past}
+use Rattle.answers.specs.Refusals.{Unless}
+use Rattle.answers.proofs.Refusals.{alike, together, past}
 use Rattle.picture.specs.Picture.{Side}
 use Rattle.memory.specs.Memory.{memory, zeros, Begun, StartIs}
 
@@ -23,4 +23,4 @@ one-begun held a b = together alike alike
 -- what a caller knows whose memory is long enough and whose sides are a picture's
 pub when-starts : (held : List ℕ) (w h n : ℕ) (left : List ℕ) → 6147 ≤ length held → Side w → Side h → StartIs held w h n left
     → left ≡ memory w h 0 (zeros 6144) (drop 6147 held)
-when-starts held w h n left long wide high d = past (long, wide, high) d .1
+when-starts held w h n left long width height d = past (long, width, height) d .1

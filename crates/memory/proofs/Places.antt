@@ -8,8 +8,8 @@ use native.Mathlib.Decide.{decLt}
 use native.Mathlib.Omega.{arith}
 use lib.ListN.{length, take, drop, length-append}
 use lib.Seq.{slice, length-slice, take-at, drop-at, take-append-le, take-take, drop-drop, length-take-le}
-use Rattle.numbers.specs.Lists.{AtMost, over}
-use Rattle.numbers.proofs.Lists.{part-is, most-append, most-take, most-drop, most-slice}
+use Rattle.arithmetic.specs.Lists.{AtMost, over}
+use Rattle.arithmetic.proofs.Lists.{part-is, most-append, most-take, most-drop, most-slice}
 use Rattle.memory.specs.Memory.{rowAt}
 
 -- ---- a row

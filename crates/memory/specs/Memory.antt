@@ -5,8 +5,8 @@ use mathlib.Core.List.{List, _∷_, _++_}
 use Prim.Native.Nat.{ℕ, _+_, _*_, _≤_}
 use lib.ListN.{length, getD, take, drop, replicate}
 use lib.Seq.{slice}
-use Rattle.numbers.specs.Lists.{AtMost}
-use Rattle.numbers.specs.Refusals.{Unless}
+use Rattle.arithmetic.specs.Lists.{AtMost}
+use Rattle.answers.specs.Refusals.{Unless}
 use Rattle.picture.specs.Picture.{Side}
 
 -- ---- what stands where
@@ -22,7 +22,7 @@ cameOf held = getD held 2 0
 
 -- where the six rows lie, one behind the other: there is room for 1,024 numbers to a row
 unfoldable pub rowsOf : List ℕ → List ℕ
-rowsOf held = take 6144 (drop 3 held)
+rowsOf held = take 6_144 (drop 3 held)
 
 unfoldable pub memory : ℕ → ℕ → ℕ → List ℕ → List ℕ → List ℕ
 memory w h came rows past = w ∷ h ∷ came ∷ rows ++ past
@@ -43,13 +43,13 @@ twoOf w rows pass = rowAt (w + w) rows pass
 pub record Ranges (w : ℕ) (rows : List ℕ) : Type 0 where
   pub levels : AtMost 255 (twoOf w rows 0)
   pub halves : AtMost 510 (twoOf w rows 1)
-  pub quarters : AtMost 1020 (twoOf w rows 2)
+  pub quarters : AtMost 1_020 (twoOf w rows 2)
 
 -- long enough, with the sides of a picture and rows in range. Any other, all zeros or too short, is as "before a good start".
 pub record Begun (held : List ℕ) : Type 0 where
-  pub long : 6147 ≤ length held
-  pub wide : Side (widthOf held)
-  pub high : Side (heightOf held)
+  pub long : 6_147 ≤ length held
+  pub width : Side (widthOf held)
+  pub height : Side (heightOf held)
   pub ranges : Ranges (widthOf held) (rowsOf held)
 
 -- ---- a start
@@ -57,5 +57,5 @@ pub record Begun (held : List ℕ) : Type 0 where
 -- the number, and what is left
 abbrev pub StartIs : List ℕ → ℕ → ℕ → ℕ → List ℕ → Type 0
 StartIs held w h number left =
-    Unless ((6147 ≤ length held) × Side w × Side h) ((number ≡ 1) × (left ≡ held))
-    ((number ≡ 0) × (left ≡ memory w h 0 (zeros 6144) (drop 6147 held)))
+    Unless ((6_147 ≤ length held) × Side w × Side h) ((number ≡ 1) × (left ≡ held))
+    ((number ≡ 0) × (left ≡ memory w h 0 (zeros 6_144) (drop 6_147 held)))

@@ -4,14 +4,14 @@ ghost use mathlib.Core.Path.{_≡_};
 ghost use mathlib.Core.Bool.{true, false};
 ghost use Prim.Native.Nat.{_≤_};
 ghost use lib.ListN.{length, drop};
-ghost use Rattle.numbers.specs.Refusals.{Unless};
+ghost use Rattle.answers.specs.Refusals.{Unless};
 ghost use Rattle.memory.specs.Memory.{memory, zeros, Ranges, Begun, StartIs};
-use numbers::table;
-use numbers::values;
+use answers::table;
+use arithmetic::values;
 
 // How many numbers it has: width, height, how many rows came, and six rows of up to 1,024. All zeros is
 // "before a good start".
-pub const LENGTH: usize = 6147;
+pub const LENGTH: usize = 6_147;
 
 // A scan begins, of a picture of `height` rows of `width` levels; what was held is dropped. Refused by 1,
 // with nothing changed.
@@ -24,31 +24,31 @@ pub fn start(held: &mut [u16], width: usize, height: usize) -> u8
     if width < 1 {
         return table::SIDE_OUT_OF_RANGE;
     }
-    if 1024 < width {
+    if 1_024 < width {
         return table::SIDE_OUT_OF_RANGE;
     }
     if height < 1 {
         return table::SIDE_OUT_OF_RANGE;
     }
-    if 1024 < height {
+    if 1_024 < height {
         return table::SIDE_OUT_OF_RANGE;
     }
     reset(held, width, height);
     table::DONE
 }
 
-// The sides, and no row.
+// Writes the sides, that no row came, and zeros for the rows; what lies past them stays.
 fn reset(held: &mut [u16], width: usize, height: usize)
-    requires { ⌜ (6147 ≤ length (now held)) × (width ≤ 1024) × (height ≤ 1024) ⌝ }
-    ensures { λ _. ⌜ now (held .exit) ≡ memory width height 0 (zeros 6144) (drop 6147 (now (held .entry))) ⌝ }
+    requires { ⌜ (6_147 ≤ length (now held)) × (width ≤ 1_024) × (height ≤ 1_024) ⌝ }
+    ensures { λ _. ⌜ now (held .exit) ≡ memory width height 0 (zeros 6_144) (drop 6_147 (now (held .entry))) ⌝ }
 {
-    clear(&mut held[3..6147]);
+    clear(&mut held[3..6_147]);
     held[0] = width as u16;
     held[1] = height as u16;
     held[2] = 0;
 }
 
-// Zeros.
+// Sets every element to 0.
 fn clear(part: &mut [u16])
     ensures { λ _. ⌜ now (part .exit) ≡ zeros (length (now (part .entry))) ⌝ }
 {
@@ -67,29 +67,29 @@ pub fn begun(held: &[u16]) -> bool
     if held.len() < LENGTH {
         return false;
     }
-    let w = held[0] as usize;
-    let h = held[1] as usize;
-    if w < 1 {
+    let width = held[0] as usize;
+    let height = held[1] as usize;
+    if width < 1 {
         return false;
     }
-    if 1024 < w {
+    if 1_024 < width {
         return false;
     }
-    if h < 1 {
+    if height < 1 {
         return false;
     }
-    if 1024 < h {
+    if 1_024 < height {
         return false;
     }
-    in_range(&held[3..6147], w)
+    in_range(&held[3..6_147], width)
 }
 
 // Whether the rows have levels, halves and quarters.
-fn in_range(rows: &[u16], w: usize) -> bool
-    requires { ⌜ (length (now rows) ≡ 6144) × (w ≤ 1024) ⌝ }
-    ensures { λ r. ⌜ Unless (Ranges w (now (rows .entry))) (r ≡ false) (r ≡ true) ⌝ }
+fn in_range(rows: &[u16], width: usize) -> bool
+    requires { ⌜ (length (now rows) ≡ 6_144) × (width ≤ 1_024) ⌝ }
+    ensures { λ r. ⌜ Unless (Ranges width (now (rows .entry))) (r ≡ false) (r ≡ true) ⌝ }
 {
-    let two = w + w;
+    let two = width + width;
     let four = two + two;
     let six = four + two;
     if !values::at_most(&rows[..two], 255) {
@@ -98,5 +98,5 @@ fn in_range(rows: &[u16], w: usize) -> bool
     if !values::at_most(&rows[two..four], 510) {
         return false;
     }
-    values::at_most(&rows[four..six], 1020)
+    values::at_most(&rows[four..six], 1_020)
 }

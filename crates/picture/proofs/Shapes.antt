@@ -1,11 +1,11 @@
--- Laws of a picture's shape: how many pixels there are, what each number says, and that the number is determined. Assumes nothing.
+-- Laws of a picture's shape: how many pixels there are, and what each number says. Assumes nothing.
 use mathlib.Core.Path.{_≡_}
 use mathlib.Core.Logic.{inl, inr}
 use Prim.Native.Nat.{ℕ, _*_, _≤_}
 use native.Mathlib.Nat.{mul-le-mul}
 use native.Mathlib.Omega.{arith}
-use Rattle.numbers.specs.Refusals.{Unless}
-use Rattle.numbers.proofs.Refusals.{goes-on, alike, together, carried}
+use Rattle.answers.specs.Refusals.{Unless}
+use Rattle.answers.proofs.Refusals.{goes-on, carried}
 use Rattle.picture.specs.Picture.{Side, Shaped}
 
 -- a picture has at most 1,048,576 pixels
@@ -31,7 +31,3 @@ module _ (levels w h r : ℕ) where
   -- any other number, handed on, is what a caller's own promise asks for, whatever the caller does past both tests
   pub misshapen : {answer : ℕ → Type 0} {done : Type 0} → (r ≡ 0 → ⊥) → ((n : ℕ) → r ≡ n → answer n) → Shaped levels w h (λ n. r ≡ n) (r ≡ 0) → Shaped levels w h answer done
   misshapen some says = carried (says 1) (carried (says 2) (λ z. absurd (some z)))
-
--- the shape decides one number
-pub one-shape : (levels w h r r' : ℕ) → Shaped levels w h (λ n. r ≡ n) (r ≡ 0) → Shaped levels w h (λ n. r' ≡ n) (r' ≡ 0) → r ≡ r'
-one-shape levels w h r r' = together alike (together alike alike)

@@ -2,7 +2,7 @@
 // 1 to 1,024, and w·h levels of 8 bits, row by row").
 ghost use mathlib.Core.Path.{_≡_};
 ghost use Rattle.picture.specs.Picture.{Shaped};
-use numbers::table;
+use answers::table;
 
 // The number that a picture's sides and how many levels are lent for it decide: 1, 2, or 0.
 pub fn shape(levels: usize, width: usize, height: usize) -> u8
@@ -11,13 +11,13 @@ pub fn shape(levels: usize, width: usize, height: usize) -> u8
     if width < 1 {
         return table::SIDE_OUT_OF_RANGE;
     }
-    if 1024 < width {
+    if 1_024 < width {
         return table::SIDE_OUT_OF_RANGE;
     }
     if height < 1 {
         return table::SIDE_OUT_OF_RANGE;
     }
-    if 1024 < height {
+    if 1_024 < height {
         return table::SIDE_OUT_OF_RANGE;
     }
     if levels != width * height {

@@ -4,7 +4,7 @@ use mathlib.Core.Logic.{inl, inr}
 use Prim.Native.Nat.{ℕ, _+_, _≤_}
 use native.Mathlib.Omega.{arith}
 use lib.Dec.{lit≤}
-use Rattle.numbers.specs.Refusals.{Unless}
+use Rattle.answers.specs.Refusals.{Unless}
 use Rattle.records.specs.Records.{Known, bodyLength}
 
 module _ {kind : ℕ} where

@@ -6,14 +6,14 @@ use Prim.Native.Nat.{ℕ}
 use native.Mathlib.Decide.{decLe, decLt, ℕ-discrete}
 use native.Mathlib.Omega.{arith}
 use lib.ListN.{length, replicate, length-replicate}
-use Rattle.numbers.proofs.Computed.{EveryRow}
-use Rattle.numbers.proofs.Refusals.{stops, goes-on}
+use Rattle.arithmetic.proofs.Computed.{EveryRow}
+use Rattle.answers.proofs.Refusals.{stops, goes-on}
 use Rattle.units.specs.Units.{picometres}
 use Rattle.records.specs.declared.Record.{Record}
 use Rattle.records.specs.declared.Record.the-variants.{Picture, Pixel, End, Bad}
 use Rattle.records.specs.Records.{RecordIs}
 use Rattle.records.proofs.Bodies.{unknown}
-use Rattle.records.proofs.Outcomes.{one-record}
+use Rattle.records.proofs.Outcomes.{one-record-at}
 use Rattle.records.proofs.Reading.{known-or-not, of-known, found}
 
 -- a row of the table: an input, an offset, and the record there
@@ -37,7 +37,7 @@ hold : (l : List Row) → EveryRow Finds l → EveryRow Holds l
 hold [] found = tt
 hold (w ∷ l) (e, rest) =
     let there = found (w .input) (w .offset) in
-    (λ r is. one-record (w .input) (w .offset) r (there .0) is (there .1) ∙ e, hold l rest)
+    (λ r is. one-record-at (w .input) (w .offset) r (there .0) is (there .1) ∙ e, hold l rest)
 
 -- "one kind-1 record whose levels are all 40"
 abbrev pub forty : List ℕ
@@ -68,10 +68,10 @@ worked = hold table (refl, (refl, (refl, (refl, (refl, (refl, (refl, (refl, (ref
 -- the byte and the offset
 pub just-full : (r : Record) → RecordIs (replicate 32768 0) 0 r → r ≡ Bad 16 0
 just-full r is =
-    one-record (replicate 32768 0) 0 r (Bad 16 0) is
+    one-record-at (replicate 32768 0) 0 r (Bad 16 0) is
     (goes-on (omega (arith, length-replicate {A = ℕ} 32768 0))
     (goes-on (omega (arith, length-replicate {A = ℕ} 32768 0))
     (stops (unknown (λ (e : _≡_ {A = ℕ} 0 1). omega arith) (λ (e : _≡_ {A = ℕ} 0 2). omega arith) (λ (e : _≡_ {A = ℕ} 0 3). omega arith)) refl)))
 
 pub too-long : (b at : ℕ) (r : Record) → RecordIs (replicate 32769 b) at r → r ≡ Bad 18 32768
-too-long b at r is = one-record (replicate 32769 b) at r (Bad 18 32768) is (stops (λ few. omega (arith, length-replicate 32769 b)) refl)
+too-long b at r is = one-record-at (replicate 32769 b) at r (Bad 18 32768) is (stops (λ few. omega (arith, length-replicate 32769 b)) refl)

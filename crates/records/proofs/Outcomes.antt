@@ -7,12 +7,12 @@ use Prim.Native.Nat.{ℕ, _+_, _*_, _<_, _≤_}
 use native.Mathlib.Omega.{arith}
 use lib.Dec.{lit≤}
 use lib.ListN.{length}
-use Rattle.numbers.proofs.Refusals.{alike, together}
+use Rattle.answers.proofs.Refusals.{alike, together}
 use Rattle.units.specs.declared.Picometres.{Picometres}
 use Rattle.records.specs.declared.Record.{Record}
 use Rattle.records.specs.declared.Record.the-variants.{Picture, Pixel, End, Bad}
 use Rattle.units.specs.Units.{picometres}
-use Rattle.numbers.specs.Bytes.{byte, fourBytes}
+use Rattle.arithmetic.specs.Bytes.{byte, fourBytes}
 use Rattle.records.specs.Records.{Known, bodyLength, Answer, answer, answerOf, byKind, RecordIs, Follows}
 
 -- ---- the record of an answer: how many values there are tells the cases apart
@@ -40,8 +40,8 @@ pub one-answered : {a : Answer} (r r' : Record) → answerOf r ≡ a → answerO
 one-answered r r' e e' = alike (answered r e) (answered r' e')
 
 -- any two records that the promise permits at an offset are one
-pub one-record : (input : List ℕ) (at : ℕ) (r r' : Record) → RecordIs input at r → RecordIs input at r' → r ≡ r'
-one-record input at r r' = together same (together same (together same (together same same)))
+pub one-record-at : (input : List ℕ) (at : ℕ) (r r' : Record) → RecordIs input at r → RecordIs input at r' → r ≡ r'
+one-record-at input at r r' = together same (together same (together same (together same same)))
   where
     same : {a : Answer} → answerOf r ≡ a → answerOf r' ≡ a → r ≡ r'
     same = one-answered r r'

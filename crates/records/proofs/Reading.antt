@@ -8,14 +8,14 @@ use native.Mathlib.Decide.{decLe, decLt, ℕ-discrete}
 use native.Mathlib.Nat.{add-zero, zero-add}
 use native.Mathlib.Omega.{arith}
 use lib.ListN.{length}
-use Rattle.numbers.proofs.Refusals.{stops, goes-on}
+use Rattle.answers.proofs.Refusals.{stops, goes-on}
 use Rattle.units.specs.Units.{picometres}
 use Rattle.records.specs.declared.Record.{Record}
 use Rattle.records.specs.declared.Record.the-variants.{Picture, Pixel, End, Bad}
-use Rattle.numbers.specs.Bytes.{byte, fourBytes}
+use Rattle.arithmetic.specs.Bytes.{byte, fourBytes}
 use Rattle.records.specs.Records.{Known, bodyLength, answerOf, byKind, RecordIs, Follows, Last, Reading}
 use Rattle.records.proofs.Bodies.{unknown}
-use Rattle.records.proofs.Outcomes.{one-record, moves-on}
+use Rattle.records.proofs.Outcomes.{one-record-at, moves-on}
 
 -- ---- an input that is read from its first byte on: k good records lie before an offset, in that whatever is read from there on makes a
 -- reading of the whole input with k good records more
@@ -125,12 +125,12 @@ module _ (input : List ℕ) where
 
   -- in one way only: after as many good records, and at the same last one
   pub one-reading : (k k' at : ℕ) (last last' : Record) → Reading input k at last → Reading input k' at last' → (k ≡ k') × (last ≡ last')
-  one-reading zero zero at last last' a b = (refl, one-record input at last last' (a .0) (b .0))
+  one-reading zero zero at last last' a b = (refl, one-record-at input at last last' (a .0) (b .0))
   one-reading zero (suc k') at last last' a b =
-      absurd (not-both (b .0) last (b .1 .1 .0) (one-record input at (b .0) last (b .1 .0) (a .0)) (b .1 .1 .1 .0) (a .1))
+      absurd (not-both (b .0) last (b .1 .1 .0) (one-record-at input at (b .0) last (b .1 .0) (a .0)) (b .1 .1 .1 .0) (a .1))
   one-reading (suc k) zero at last last' a b =
-      absurd (not-both (a .0) last' (a .1 .1 .0) (one-record input at (a .0) last' (a .1 .0) (b .0)) (a .1 .1 .1 .0) (b .1))
+      absurd (not-both (a .0) last' (a .1 .1 .0) (one-record-at input at (a .0) last' (a .1 .0) (b .0)) (a .1 .1 .1 .0) (b .1))
   one-reading (suc k) (suc k') at last last' a b =
-      let same = one-follows (a .0) (b .0) (a .1 .1 .0) (b .1 .1 .0) (one-record input at (a .0) (b .0) (a .1 .0) (b .1 .0)) (a .1 .1 .1 .0) (b .1 .1 .1 .0) in
+      let same = one-follows (a .0) (b .0) (a .1 .1 .0) (b .1 .1 .0) (one-record-at input at (a .0) (b .0) (a .1 .0) (b .1 .0)) (a .1 .1 .1 .0) (b .1 .1 .1 .0) in
       let rest = one-reading k k' (b .1 .1 .0) last last' (subst (λ (n : ℕ). Reading input k n last) same (a .1 .1 .1 .1)) (b .1 .1 .1 .1) in
       (ap suc (rest .0), rest .1)

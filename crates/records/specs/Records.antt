@@ -6,8 +6,8 @@ use mathlib.Core.Logic.{_⊎_}
 use Prim.Native.Nat.{ℕ, zero, suc, _+_, _<_, _≤_}
 use lib.Dec.{eqb}
 use lib.ListN.{length}
-use Rattle.numbers.specs.Bytes.{byte, fourBytes}
-use Rattle.numbers.specs.Refusals.{Unless}
+use Rattle.arithmetic.specs.Bytes.{byte, fourBytes}
+use Rattle.answers.specs.Refusals.{Unless}
 use Rattle.records.specs.declared.Record.{Record}
 use Rattle.records.specs.declared.Record.the-variants.{Picture, Pixel, End, Bad}
 
@@ -18,7 +18,7 @@ Known kind = (kind ≡ 1) ⊎ ((kind ≡ 2) ⊎ (kind ≡ 3))
 -- "a body whose length the kind fixes": "Kind 1: a 16×16 picture, 256 bytes. Kind 2: a 64×64 picture, 4,096 bytes. Kind 3: pixel
 -- size, 4 bytes"
 abbrev pub bodyLength : ℕ → ℕ
-bodyLength kind = cond (eqb kind 1) 256 (cond (eqb kind 2) 4096 4)
+bodyLength kind = cond (eqb kind 1) 256 (cond (eqb kind 2) 4_096 4)
 
 -- an answer in this paper's terms: its number, and the values beside it
 pub record Answer : Type 0 where
@@ -47,7 +47,7 @@ byKind input kind start end =
 -- there is no record. Else "16 | unknown record kind", "17 | record body cut short", each with the "offset of its kind byte".
 abbrev pub RecordIs : List ℕ → ℕ → Record → Type 0
 RecordIs input at r =
-    Unless (length input ≤ 32768) (answerOf r ≡ answer 18 (32768 ∷ []))
+    Unless (length input ≤ 32_768) (answerOf r ≡ answer 18 (32_768 ∷ []))
     (Unless (at < length input) (answerOf r ≡ answer 0 [])
     (Unless (Known (byte input at)) (answerOf r ≡ answer 16 (at ∷ []))
     (Unless (at + 1 + bodyLength (byte input at) ≤ length input) (answerOf r ≡ answer 17 (at ∷ []))

@@ -2,12 +2,12 @@
 ghost use mathlib.Core.Path.{_≡_};
 ghost use Prim.Native.Nat.{_+_, _≤_};
 ghost use lib.ListN.{length};
-ghost use Rattle.numbers.specs.Refusals.{Unless};
-ghost use Rattle.numbers.specs.Bytes.{fourBytes};
+ghost use Rattle.answers.specs.Refusals.{Unless};
+ghost use Rattle.arithmetic.specs.Bytes.{fourBytes};
 ghost use Rattle.records.specs.Records.{Known, bodyLength, answerOf, byKind, RecordIs};
 ghost use Rattle.units.specs.Units.{picometres};
-use numbers::bytes;
-use numbers::table;
+use answers::table;
+use arithmetic::bytes;
 use units::Picometres;
 
 // What begins at an offset of the input. A body lies from `start` up to, not at, `end`, where the next
@@ -39,10 +39,10 @@ pub enum Record {
 pub fn record_at(input: &[u8], at: usize) -> Record
     ensures { λ r. ⌜ RecordIs (now (input .entry)) at r ⌝ }
 {
-    if 32768 < input.len() {
+    if 32_768 < input.len() {
         return Record::Bad {
             number: table::LONG_INPUT,
-            offset: 32768,
+            offset: 32_768,
         };
     }
     if input.len() <= at {
@@ -72,7 +72,7 @@ fn body_length(kind: u8) -> usize
 {
     match kind {
         1 => 256,
-        2 => 4096,
+        2 => 4_096,
         3 => 4,
         _ => 0,
     }

@@ -8,11 +8,11 @@ use lib.Dec.{leb}
 use lib.IntN.{ℤ, pos, negsuc, negℤ, negℤ-negℤ, _+ℤ_, _-ℤ_, _*ℤ_}
 use lib.Signed.{_≤ℤ_, shrZ}
 use borrow.Author.Tests.{le-leb, lt-leb}
-use Rattle.numbers.specs.Refusals.{Unless}
-use Rattle.numbers.specs.Signed.{natOf}
-use Rattle.numbers.proofs.Order.{le-or-lt, to-ℤ, of-ℤ}
-use Rattle.numbers.proofs.Differences.{sub-pos, sub-neg, pos-minus, less-plus}
-use Rattle.numbers.proofs.Refusals.{stops, goes-on}
+use Rattle.answers.specs.Refusals.{Unless}
+use Rattle.arithmetic.specs.Signed.{natOf}
+use Rattle.arithmetic.proofs.Order.{le-or-lt, to-ℤ, of-ℤ}
+use Rattle.arithmetic.proofs.Differences.{sub-pos, sub-neg, pos-minus, less-plus}
+use Rattle.answers.proofs.Refusals.{stops, goes-on}
 use Rattle.units.specs.declared.Sixteenths.{Sixteenths}
 use Rattle.sample.specs.declared.Coordinate.{Coordinate}
 use Rattle.sample.specs.Cubic.{pixel, remainder, Inside}

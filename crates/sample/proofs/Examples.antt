@@ -11,8 +11,8 @@ use lib.Dec.{T}
 use lib.ListN.{length}
 use lib.IntN.{ℤ, pos, negsuc, negℤ, _-ℤ_}
 use lib.Signed.{_≤ℤ_, leZ}
-use Rattle.numbers.specs.Sums.{sumℤ}
-use Rattle.numbers.proofs.Computed.{when, unless, EveryRow, every-row}
+use Rattle.arithmetic.specs.Sums.{sumℤ}
+use Rattle.arithmetic.proofs.Computed.{when, unless, EveryRow, every-row}
 use Rattle.picture.specs.Picture.{Side}
 use Rattle.units.specs.Units.{sixteenths}
 use Rattle.sample.specs.declared.Sampled.{Sampled}

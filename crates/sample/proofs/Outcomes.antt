@@ -7,8 +7,8 @@ use native.Mathlib.Omega.{arith}
 use lib.Dec.{lit≤}
 use lib.ListN.{length}
 use lib.IntN.{ℤ}
-use Rattle.numbers.specs.Signed.{natOf}
-use Rattle.numbers.proofs.Refusals.{alike, together}
+use Rattle.arithmetic.specs.Signed.{natOf}
+use Rattle.answers.proofs.Refusals.{alike, together}
 use Rattle.units.specs.declared.Sixteenths.{Sixteenths}
 use Rattle.sample.specs.declared.Sampled.{Sampled}
 use Rattle.sample.specs.declared.Coordinate.{Coordinate}

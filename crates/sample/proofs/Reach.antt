@@ -8,12 +8,12 @@ use lib.ListN.{getD}
 use lib.IntN.{ℤ, pos, _+ℤ_, _*ℤ_}
 use mir.Syntax.{w64}
 use mir.Val.{SFits}
-use Rattle.numbers.specs.Lists.{AtMost}
-use Rattle.numbers.specs.Sums.{sum, sumℤ}
-use Rattle.numbers.proofs.Differences.{plus, minus}
-use Rattle.numbers.proofs.Sums.{sum-part, sum-term}
-use Rattle.numbers.proofs.Ranges.{Ranges, widened, of-natural, of-product, of-sums, in-width, next-in-width}
-use Rattle.numbers.proofs.Computed.{every, each}
+use Rattle.arithmetic.specs.Lists.{AtMost}
+use Rattle.arithmetic.specs.Sums.{sum, sumℤ}
+use Rattle.arithmetic.proofs.Differences.{plus, minus}
+use Rattle.arithmetic.proofs.Sums.{sum-part, sum-term}
+use Rattle.arithmetic.proofs.Ranges.{Ranges, widened, of-natural, of-product, of-sums, in-width, next-in-width}
+use Rattle.arithmetic.proofs.Computed.{every, each}
 use Rattle.sample.specs.Cubic.{weight}
 use Rattle.sample.specs.Asked.{columnTerm, rowSum, rowStart, rowTerm}
 

@@ -7,10 +7,10 @@ use native.Mathlib.Nat.{le-antisymm}
 use native.Mathlib.Omega.{arith}
 use lib.ListN.{length, getD}
 use lib.IntN.{ℤ, pos, _*ℤ_}
-use Rattle.numbers.specs.Sums.{sumℤ}
-use Rattle.numbers.proofs.Order.{row-end}
-use Rattle.numbers.proofs.Differences.{mul-assocℤ}
-use Rattle.numbers.proofs.SignedSums.{sumℤ-same, sumℤ-times}
+use Rattle.arithmetic.specs.Sums.{sumℤ}
+use Rattle.arithmetic.proofs.Order.{row-end}
+use Rattle.arithmetic.proofs.Differences.{mul-assocℤ}
+use Rattle.arithmetic.proofs.SignedSums.{sumℤ-same, sumℤ-times}
 use Rattle.sample.specs.Cubic.{weight, sampleOf}
 use Rattle.sample.specs.Asked.{Surrounded, Around, columnTerm, rowSum, rowStart, rowTerm}
 

@@ -8,11 +8,11 @@ use native.Mathlib.Omega.{arith}
 use lib.ListN.{getD}
 use lib.IntN.{ℤ, pos, negℤ, _*ℤ_, zero-*ℤ, +ℤ-idl, +ℤ-idr}
 use lib.Signed.{_≤ℤ_}
-use Rattle.numbers.specs.Signed.{natOf}
-use Rattle.numbers.specs.Lists.{AtMost}
-use Rattle.numbers.specs.Sums.{sumℤ}
-use Rattle.numbers.proofs.SignedSums.{sumℤ-same, sumℤ-by}
-use Rattle.numbers.proofs.Ranges.{of-natural, widened, in-order}
+use Rattle.arithmetic.specs.Signed.{natOf}
+use Rattle.arithmetic.specs.Lists.{AtMost}
+use Rattle.arithmetic.specs.Sums.{sumℤ}
+use Rattle.arithmetic.proofs.SignedSums.{sumℤ-same, sumℤ-by}
+use Rattle.arithmetic.proofs.Ranges.{of-natural, widened, in-order}
 use Rattle.units.specs.declared.Sixteenths.{Sixteenths}
 use Rattle.sample.specs.declared.Sampled.{Sampled}
 use Rattle.sample.specs.Cubic.{weight, sampleOf, pixel, remainder, refused, SampleIs}

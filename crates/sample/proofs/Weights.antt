@@ -4,9 +4,9 @@ use Prim.Native.Nat.{ℕ, zero, suc, _+_, _*_, _<_, _≤_}
 use native.Mathlib.Nat.{mul-le-mul}
 use native.Mathlib.Omega.{arith}
 use lib.IntN.{ℤ, pos, subℕ}
-use Rattle.numbers.specs.Sums.{sum, sumℤ}
-use Rattle.numbers.proofs.Differences.{same-diff, pos-diff, pos-minus, less-plus, less-plus-less, minus-plus}
-use Rattle.numbers.proofs.SignedSums.{sum-diff}
+use Rattle.arithmetic.specs.Sums.{sum, sumℤ}
+use Rattle.arithmetic.proofs.Differences.{same-diff, pos-diff, pos-minus, less-plus, less-plus-less, minus-plus}
+use Rattle.arithmetic.proofs.SignedSums.{sum-diff}
 use Rattle.sample.specs.Cubic.{weight}
 
 -- what the formula of pixel i−1+t adds, and what it takes away

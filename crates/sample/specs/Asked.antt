@@ -4,8 +4,8 @@ use mathlib.Core.List.{List}
 use Prim.Native.Nat.{ℕ, _+_, _-_, _*_, _/_, _%_, _≤_}
 use lib.ListN.{length, getD}
 use lib.IntN.{ℤ, pos, _*ℤ_}
-use Rattle.numbers.specs.Signed.{natOf}
-use Rattle.numbers.specs.Sums.{sumℤ}
+use Rattle.arithmetic.specs.Signed.{natOf}
+use Rattle.arithmetic.specs.Sums.{sumℤ}
 use Rattle.units.specs.declared.Sixteenths.{Sixteenths}
 use Rattle.sample.specs.declared.Coordinate.{Coordinate}
 use Rattle.sample.specs.Cubic.{weight}
@@ -26,7 +26,7 @@ pub record Around (levels : List ℕ) (w i j : ℕ) : Type 0 where
   pub column : Surrounded w i
   pub row : Surrounded rows j
   pub all-levels : length levels ≡ w * rows
-  pub few : w * rows ≤ 1048576
+  pub few : w * rows ≤ 1_048_576
 
 -- level t of four, from `at` on, times the weight of its column; and the sum of all four
 abbrev pub columnTerm : List ℕ → ℕ → ℕ → ℕ → ℤ

@@ -5,9 +5,9 @@ use Prim.Native.Nat.{ℕ, zero, suc, _+_, _-_, _*_}
 use lib.ListN.{length, getD}
 use lib.IntN.{ℤ, pos, negℤ, _+ℤ_, _-ℤ_, _*ℤ_}
 use lib.Signed.{_≤ℤ_, shrZ}
-use Rattle.numbers.specs.Refusals.{Unless}
-use Rattle.numbers.specs.Signed.{natOf}
-use Rattle.numbers.specs.Sums.{sumℤ}
+use Rattle.answers.specs.Refusals.{Unless}
+use Rattle.arithmetic.specs.Signed.{natOf}
+use Rattle.arithmetic.specs.Sums.{sumℤ}
 use Rattle.picture.specs.Picture.{Shaped}
 use Rattle.units.specs.declared.Sixteenths.{Sixteenths}
 use Rattle.sample.specs.declared.Sampled.{Sampled}
@@ -16,7 +16,7 @@ use Rattle.sample.specs.declared.Sampled.{Sampled}
 -- −16k²+k³": the weight on pixel i−1+t, for t from 0 to 3 (past 3, which nothing asks for, the fourth again).
 unfoldable pub weight : ℕ → ℕ → ℤ
 weight k zero = negℤ (pos (256 * k)) +ℤ pos (32 * (k * k)) -ℤ pos (k * k * k)
-weight k (suc zero) = pos 8192 -ℤ pos (80 * (k * k)) +ℤ pos (3 * (k * k * k))
+weight k (suc zero) = pos 8_192 -ℤ pos (80 * (k * k)) +ℤ pos (3 * (k * k * k))
 weight k (suc (suc zero)) = pos (256 * k) +ℤ pos (64 * (k * k)) -ℤ pos (3 * (k * k * k))
 weight k (suc (suc (suc t))) = negℤ (pos (16 * (k * k))) +ℤ pos (k * k * k)
 

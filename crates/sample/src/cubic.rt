@@ -50,7 +50,7 @@ fn weight(k: u64, t: usize) -> i64
     let cube = square * k;
     match t {
         0 => difference(32 * square, 256 * k + cube),
-        1 => difference(8192 + 3 * cube, 80 * square),
+        1 => difference(8_192 + 3 * cube, 80 * square),
         2 => difference(256 * k + 64 * square, 3 * cube),
         _ => difference(cube, 16 * square),
     }

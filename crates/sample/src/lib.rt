@@ -2,10 +2,10 @@
 // around a place; here is which places have one.
 ghost use mathlib.Core.Path.{_≡_};
 ghost use mathlib.Core.Bool.{true, false};
-ghost use Rattle.numbers.specs.Refusals.{Unless};
+ghost use Rattle.answers.specs.Refusals.{Unless};
 ghost use Rattle.sample.specs.Cubic.{SampleIs, refused};
 ghost use Rattle.sample.specs.Asked.{Surrounded, Located};
-use numbers::table;
+use answers::table;
 use units::Sixteenths;
 
 mod cubic;
@@ -59,7 +59,7 @@ struct Coordinate {
 fn locate(x: Sixteenths) -> Coordinate
     ensures { λ r. ⌜ Located x r ⌝ }
 {
-    let n = numbers::natural(x.amount());
+    let n = arithmetic::natural(x.amount());
     Coordinate {
         pixel: (n / 16) as usize,
         remainder: n % 16,

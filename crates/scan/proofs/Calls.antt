@@ -7,18 +7,18 @@ use native.Mathlib.Decide.{decLe}
 use native.Mathlib.Omega.{arith}
 use lib.ListN.{length, take, drop, set, length-append, length-take}
 use lib.Seq.{drop-at, drop-drop, drop-nil, take-nil}
-use Rattle.numbers.specs.Lists.{AtMost, joined}
-use Rattle.numbers.proofs.Refusals.{goes-on}
+use Rattle.arithmetic.specs.Lists.{AtMost, joined}
+use Rattle.answers.proofs.Refusals.{goes-on}
 use Rattle.memory.specs.Memory.{rowAt, widthOf, heightOf, cameOf, rowsOf, memory, zeros, Begun}
 use Rattle.memory.proofs.Places.{length-row-at, most-row-at}
 use Rattle.memory.proofs.Memories.{length-rows}
 use Rattle.scan.specs.Ring.{heldIn, later}
 use Rattle.scan.proofs.SixRows.{count-set}
-use Rattle.scan.specs.Held.{Held, eighthsRow, step, after, given, noRow}
+use Rattle.scan.specs.Held.{Held, passThreeRow, step, after, given, noRow}
 use Rattle.scan.specs.Scan.{scanned, atFront, due, rowsGiven, rowsHeld, RowsIs, endGiven, EndIs}
 use Rattle.scan.specs.Asked.{long, Ready, Coming}
 use Rattle.scan.proofs.Shown.{long-there, long-before, long-past}
-use Rattle.scan.proofs.Turns.{length-eighths, ready-next, held-next, length-next}
+use Rattle.scan.proofs.Turns.{length-pass-three, ready-next, held-next, length-next}
 
 -- a call that is refused
 pub refused-is : {n number rows : ℕ} {held output : List ℕ} → (number ≡ n) × (rows ≡ 0)
@@ -73,9 +73,9 @@ module _ (w h k : ℕ) (rows : List ℕ) (f : ℕ → List ℕ) (ready : Ready w
       let less = length-given n (fewer n fit) (λ i p. inside i (omega arith)) (omega arith) in
       let before = so-far n (fewer n fit) (omega arith) in
       let more =
-      ap (λ (held : Held). length (eighthsRow held (f n))) (sym (before .1))
-      ∙ length-eighths w h (k + n) (later w h k rows f n) (f n) (before .0) in
-      length-append (given start f n) (eighthsRow (after start f n) (f n)) ∙ elim (decLe 3 (k + n)) [
+      ap (λ (held : Held). length (passThreeRow held (f n))) (sym (before .1))
+      ∙ length-pass-three w h (k + n) (later w h k rows f n) (f n) (before .0) in
+      length-append (given start f n) (passThreeRow (after start f n) (f n)) ∙ elim (decLe 3 (k + n)) [
         | yes p ↦
             let l = long-there h (k + n) 3 w (p, omega (arith, inside n (omega arith))) in
             let d : due k (suc n) ≡ due k n + 1 = omega arith in
@@ -104,10 +104,10 @@ module _ (held : List ℕ) (begun : Begun held) where
   pub is-ready : k ≤ 65535 → Ready w h k rows
   unfolding rowsOf
   is-ready few = record {
-    wide = begun .wide;
-    high = begun .high .1;
+    width = begun .width;
+    height = begun .height .1;
     few = omega arith;
-    room = rw (length-rows held (begun .long)) (let wide = begun .wide .1 in omega arith);
+    room = rw (length-rows held (begun .long)) (let width = begun .width .1 in omega arith);
     ranges = begun .ranges;
   }
 
@@ -130,12 +130,12 @@ module _ (held : List ℕ) (begun : Begun held) where
 
     pub rows-due : length (given (heldIn w h k rows) (rowAt w levels) n) ≡ due k n * w
     rows-due =
-        let high = begun .high .1 in
+        let height = begun .height .1 in
         length-given w h k rows (rowAt w levels) (is-ready few) n rows-fit (λ i p. omega arith) (omega arith)
 
     pub is-coming : due k n * w ≤ length output → Coming w h k w n rows levels output
     is-coming room =
-        let high = begun .high .1 in
+        let height = begun .height .1 in
         record { few = omega arith; rows-are = row-there; levels-are = levels-are; room = rw rows-due room }
 
     -- a call that is done
@@ -177,16 +177,16 @@ module _ (held : List ℕ) (begun : Begun held) (last : cameOf held ≡ heightOf
   past-last i = long-past g (j + i) 0 v zero-le (omega arith)
 
   pub end-ready : Ready v g j six
-  end-ready = is-ready held begun (let high = begun .high .1 in omega (arith, high, last))
+  end-ready = is-ready held begun (let height = begun .height .1 in omega (arith, height, last))
 
   end-fit : Fitting v g j (rowAt 0 []) 3
   end-fit i p = (ap length (no-row-at i) ∙ sym (past-last i), λ z. rw (no-row-at i) zero-le)
 
   end-due : length (given (heldIn v g j six) (rowAt 0 []) 3) ≡ min 3 g * v
   end-due =
-      let high = begun .high .1 in
+      let height = begun .height .1 in
       let d : due j 3 ≡ min 3 g = omega (arith, last) in
-      length-given v g j six (rowAt 0 []) end-ready 3 end-fit (λ i p. omega (arith, p, last)) (omega (arith, high, last))
+      length-given v g j six (rowAt 0 []) end-ready 3 end-fit (λ i p. omega (arith, p, last)) (omega (arith, height, last))
       ∙ ap (λ (z : ℕ). z * v) d
 
   pub end-long : length (endGiven held) ≡ min 3 g * v
@@ -196,8 +196,8 @@ module _ (held : List ℕ) (begun : Begun held) (last : cameOf held ≡ heightOf
   module _ (output : List ℕ) (room : min 3 g * v ≤ length output) where
     pub end-coming : Coming v g j 0 3 six [] output
     end-coming =
-        let high = begun .high .1 in
-        record { few = omega (arith, high, last); rows-are = λ i p. past-last i; levels-are = refl; room = rw end-due room }
+        let height = begun .height .1 in
+        record { few = omega (arith, height, last); rows-are = λ i p. past-last i; levels-are = refl; room = rw end-due room }
 
     -- a call that is done
     pub end-done : (rows' left out : List ℕ) (r : ℕ) → length rows' ≡ 6144 → r ≡ min 3 g

@@ -2,7 +2,7 @@
 use mathlib.Core.Path.{_≡_}
 use mathlib.Core.List.{List}
 use Prim.Native.Nat.{ℕ}
-use Rattle.numbers.proofs.Refusals.{alike, together}
+use Rattle.answers.proofs.Refusals.{alike, together}
 use Rattle.scan.specs.Scan.{Scanned, RowsIs, EndIs}
 
 pub one-rows : (held levels output : List ℕ) (a b : Scanned) → RowsIs held levels output a → RowsIs held levels output b → a ≡ b

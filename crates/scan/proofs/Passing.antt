@@ -5,16 +5,16 @@ use Prim.Native.Nat.{ℕ, _+_, _*_, _≤_}
 use native.Mathlib.Omega.{arith}
 use lib.ListN.{length, take, drop}
 use lib.Seq.{take-at}
-use Rattle.numbers.specs.Lists.{AtMost}
+use Rattle.arithmetic.specs.Lists.{AtMost}
 use Rattle.filter.specs.Row.{Beside}
 use Rattle.memory.specs.Memory.{twoOf}
 use Rattle.scan.specs.Ring.{lastTwo, heldIn, replaced, next}
 use Rattle.scan.proofs.SixRows.{length-two-of}
-use Rattle.scan.specs.Held.{Held, completed, halvesRow, quartersRow, eighthsRow}
+use Rattle.scan.specs.Held.{Held, completed, passOneRow, passTwoRow, passThreeRow}
 use Rattle.scan.specs.Asked.{long, Below, Ready}
 use Rattle.scan.proofs.Shown.{none-or-long}
 use Rattle.scan.proofs.Twos.{length-replaced}
-use Rattle.scan.proofs.Turns.{length-halves, length-quarters, most-halves, most-quarters}
+use Rattle.scan.proofs.Turns.{length-pass-one, length-pass-two, most-pass-one, most-pass-two}
 
 -- what was written to the front of x
 pub front-is : (n : ℕ) (x row rest : List ℕ) → x ≡ row ++ rest → length row ≡ n → take n x ≡ row
@@ -30,18 +30,18 @@ module _ {w h k : ℕ} {rows levels : List ℕ} (arriving : Arriving w h k rows 
   abbrev before : Held
   before = heldIn w h k rows
 
-  pub length-halves-row : length (halvesRow before levels) ≡ long w h k 1
-  length-halves-row = length-halves w h k rows levels (arriving .ready)
+  pub length-pass-one-row : length (passOneRow before levels) ≡ long w h k 1
+  length-pass-one-row = length-pass-one w h k rows levels (arriving .ready)
 
-  pub length-quarters-row : length (quartersRow before levels) ≡ long w h k 2
-  length-quarters-row = length-quarters w h k rows levels (arriving .ready)
+  pub length-pass-two-row : length (passTwoRow before levels) ≡ long w h k 2
+  length-pass-two-row = length-pass-two w h k rows levels (arriving .ready)
 
   -- ---- what each pass asks for
   module _ (pass late : ℕ) (few : pass ≤ 2) (soon : late ≤ 3) (row : List ℕ) where
     below : AtMost 1020 (twoOf w rows pass) → Beside w (length row) → AtMost 1020 row → (two part : List ℕ) → two ≡ twoOf w rows pass
         → part ≡ row → Below w k late two part
     below small beside small-row two part e f = rw (e, f) (record {
-      wide = arriving .ready .wide .1;
+      width = arriving .ready .width .1;
       few = arriving .ready .few;
       soon = soon;
       room = length-two-of w pass rows (arriving .ready .room) few;
@@ -56,36 +56,36 @@ module _ {w h k : ℕ} {rows levels : List ℕ} (arriving : Arriving w h k rows 
       (λ i. omega (arith, arriving .ready .ranges .levels i)) (rw (arriving .long-as) (none-or-long h k 0 w))
       (λ i. omega (arith, arriving .bytes i))
 
-  pub below-halves : (two part : List ℕ) → two ≡ twoOf w rows 1 → part ≡ halvesRow before levels → Below w k 2 two part
-  below-halves =
-      below 1 2 (omega arith) (omega arith) (halvesRow before levels)
+  pub below-pass-one : (two part : List ℕ) → two ≡ twoOf w rows 1 → part ≡ passOneRow before levels → Below w k 2 two part
+  below-pass-one =
+      below 1 2 (omega arith) (omega arith) (passOneRow before levels)
       (λ i. omega (arith, arriving .ready .ranges .halves i))
-      (rw length-halves-row (none-or-long h k 1 w))
-      (λ i. omega (arith, most-halves w h k rows levels (arriving .ready) (arriving .bytes) i))
+      (rw length-pass-one-row (none-or-long h k 1 w))
+      (λ i. omega (arith, most-pass-one w h k rows levels (arriving .ready) (arriving .bytes) i))
 
-  pub below-quarters : (two part : List ℕ) → two ≡ twoOf w rows 2 → part ≡ quartersRow before levels → Below w k 3 two part
-  below-quarters =
-      below 2 3 (omega arith) (omega arith) (quartersRow before levels)
+  pub below-pass-two : (two part : List ℕ) → two ≡ twoOf w rows 2 → part ≡ passTwoRow before levels → Below w k 3 two part
+  below-pass-two =
+      below 2 3 (omega arith) (omega arith) (passTwoRow before levels)
       (arriving .ready .ranges .quarters)
-      (rw length-quarters-row (none-or-long h k 2 w))
-      (most-quarters w h k rows levels (arriving .ready) (arriving .bytes))
+      (rw length-pass-two-row (none-or-long h k 2 w))
+      (most-pass-two w h k rows levels (arriving .ready) (arriving .bytes))
 
   -- ---- what each pass gives
   module _ (two part x rest : List ℕ) where
-    pub halves-are : two ≡ twoOf w rows 0 → part ≡ levels → x ≡ completed (lastTwo w h k 1 two) part ++ rest
-        → x ≡ halvesRow before levels ++ rest
-    unfolding halvesRow heldIn
-    halves-are e f is = is ∙ rw (e, f)
+    pub pass-one-is-row : two ≡ twoOf w rows 0 → part ≡ levels → x ≡ completed (lastTwo w h k 1 two) part ++ rest
+        → x ≡ passOneRow before levels ++ rest
+    unfolding passOneRow heldIn
+    pass-one-is-row e f is = is ∙ rw (e, f)
 
-    pub quarters-are : two ≡ twoOf w rows 1 → part ≡ halvesRow before levels → x ≡ completed (lastTwo w h k 2 two) part ++ rest
-        → x ≡ quartersRow before levels ++ rest
-    unfolding quartersRow heldIn
-    quarters-are e f is = is ∙ rw (e, f)
+    pub pass-two-is-row : two ≡ twoOf w rows 1 → part ≡ passOneRow before levels → x ≡ completed (lastTwo w h k 2 two) part ++ rest
+        → x ≡ passTwoRow before levels ++ rest
+    unfolding passTwoRow heldIn
+    pass-two-is-row e f is = is ∙ rw (e, f)
 
-    pub eighths-are : two ≡ twoOf w rows 2 → part ≡ quartersRow before levels → x ≡ completed (lastTwo w h k 3 two) part ++ rest
-        → x ≡ eighthsRow before levels ++ rest
-    unfolding eighthsRow heldIn
-    eighths-are e f is = is ∙ rw (e, f)
+    pub pass-three-is-row : two ≡ twoOf w rows 2 → part ≡ passTwoRow before levels → x ≡ completed (lastTwo w h k 3 two) part ++ rest
+        → x ≡ passThreeRow before levels ++ rest
+    unfolding passThreeRow heldIn
+    pass-three-is-row e f is = is ∙ rw (e, f)
 
   pub two-are : (pass : ℕ) (two part x row : List ℕ) → two ≡ twoOf w rows pass → part ≡ row → x ≡ replaced w k two part
       → x ≡ replaced w k (twoOf w rows pass) row
@@ -97,7 +97,7 @@ module _ {w h k : ℕ} {rows levels : List ℕ} (arriving : Arriving w h k rows 
       ap length is ∙ length-replaced w h k late (twoOf w rows pass) row (length-two-of w pass rows (arriving .ready .room) few) row-long
 
   pub rows-are : (x a b c : List ℕ) → x ≡ a ++ b ++ c ++ drop (6 * w) rows → a ≡ replaced w k (twoOf w rows 0) levels
-      → b ≡ replaced w k (twoOf w rows 1) (halvesRow before levels) → c ≡ replaced w k (twoOf w rows 2) (quartersRow before levels)
+      → b ≡ replaced w k (twoOf w rows 1) (passOneRow before levels) → c ≡ replaced w k (twoOf w rows 2) (passTwoRow before levels)
       → x ≡ next w h k rows levels
   unfolding next
   rows-are x a b c is a-is b-is c-is = is ∙ rw (a-is, b-is, c-is)

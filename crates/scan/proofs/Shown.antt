@@ -7,7 +7,7 @@ use native.Mathlib.Decide.{decLt, decLe}
 use native.Mathlib.Omega.{arith}
 use borrow.Author.Tests.{lt-ltb, le-ltb, le-leb, lt-leb}
 use lib.ListN.{length, take, drop}
-use Rattle.numbers.specs.Lists.{AtMost}
+use Rattle.arithmetic.specs.Lists.{AtMost}
 use Rattle.memory.specs.Memory.{rowAt}
 use Rattle.memory.proofs.Places.{part-row}
 use Rattle.scan.specs.Ring.{shown}

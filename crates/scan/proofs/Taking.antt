@@ -8,14 +8,14 @@ use native.Mathlib.Decide.{decLt}
 use native.Mathlib.Omega.{arith}
 use lib.ListN.{length, take, drop, length-append, length-drop, drop-of-length-le}
 use lib.Seq.{take-at, drop-at, take-all, drop-drop}
-use Rattle.numbers.specs.Lists.{AtMost, joined}
+use Rattle.arithmetic.specs.Lists.{AtMost, joined}
 use Rattle.memory.specs.Memory.{rowAt}
 use Rattle.memory.proofs.Places.{length-row-at, part-row, most-row-at}
 use Rattle.scan.specs.Ring.{heldIn, next, later}
-use Rattle.scan.specs.Held.{Held, eighthsRow, step, after, given}
+use Rattle.scan.specs.Held.{Held, passThreeRow, step, after, given}
 use Rattle.scan.specs.Scan.{atFront}
 use Rattle.scan.specs.Asked.{long, Ready}
-use Rattle.scan.proofs.Turns.{length-eighths, ready-next, held-next}
+use Rattle.scan.proofs.Turns.{length-pass-three, ready-next, held-next}
 
 -- rows given out only grow
 joined-grows : (g : ℕ → List ℕ) (i n : ℕ) → i ≤ n → length (joined i g) ≤ length (joined n g)
@@ -28,7 +28,7 @@ joined-grows g i (suc n) h = elim (decLt i (suc n)) [
 
 pub given-grows : (held : Held) (f : ℕ → List ℕ) (i n : ℕ) → i ≤ n → length (given held f i) ≤ length (given held f n)
 unfolding given
-given-grows held f i n h = joined-grows (λ j. eighthsRow (after held f j) (f j)) i n h
+given-grows held f i n h = joined-grows (λ j. passThreeRow (after held f j) (f j)) i n h
 
 -- after i of the rows f 0, f 1, .. that come after k: what the rows are and hold, and what is written, of an output o₀
 pub record Taken (w h k : ℕ) (rows₀ : List ℕ) (f : ℕ → List ℕ) (o₀ : List ℕ) (i done : ℕ) (rows o : List ℕ) : Type 0 where
@@ -53,20 +53,20 @@ module _ (w h k : ℕ) (rows₀ : List ℕ) (f : ℕ → List ℕ) (o₀ : List 
   abbrev start : Held
   start = heldIn w h k rows₀
 
-  given-suc : (i : ℕ) → given start f (i + 1) ≡ given start f i ++ eighthsRow (after start f i) (f i)
+  given-suc : (i : ℕ) → given start f (i + 1) ≡ given start f i ++ passThreeRow (after start f i) (f i)
   unfolding given joined
   given-suc i = rw add-one
 
   module _ (i done : ℕ) (rows o : List ℕ) (so-far : Taken w h k rows₀ f o₀ i done rows o) where
     -- what the next row completes
     abbrev more : List ℕ
-    more = eighthsRow (after start f i) (f i)
+    more = passThreeRow (after start f i) (f i)
 
-    more-is : eighthsRow (heldIn w h (k + i) rows) (f i) ≡ more
-    more-is = ap (λ (held : Held). eighthsRow held (f i)) (so-far .hold)
+    more-is : passThreeRow (heldIn w h (k + i) rows) (f i) ≡ more
+    more-is = ap (λ (held : Held). passThreeRow held (f i)) (so-far .hold)
 
     more-long : length more ≡ long w h (k + i) 3
-    more-long = ap length (sym more-is) ∙ length-eighths w h (k + i) rows (f i) (so-far .ready)
+    more-long = ap length (sym more-is) ∙ length-pass-three w h (k + i) rows (f i) (so-far .ready)
 
     -- how much is written with it
     pub given-count : length (given start f (i + 1)) ≡ done + long w h (k + i) 3
@@ -77,7 +77,7 @@ module _ (w h k : ℕ) (rows₀ : List ℕ) (f : ℕ → List ℕ) (o₀ : List 
     -- one row more: its row of pass three is written behind those before it
     pub taken-more : (to : ℕ) (rows' o' new : List ℕ) → length (f i) ≡ long w h (k + i) 0 → AtMost 255 (f i) → k + i + 1 ≤ 70000
         → rows' ≡ next w h (k + i) rows (f i)
-        → new ≡ eighthsRow (heldIn w h (k + i) rows) (f i) ++ drop (long w h (k + i) 3) (drop done o)
+        → new ≡ passThreeRow (heldIn w h (k + i) rows) (f i) ++ drop (long w h (k + i) 3) (drop done o)
         → o' ≡ take done o ++ new
         → to ≡ done + long w h (k + i) 3
         → Taken w h k rows₀ f o₀ (i + 1) to rows' o'
@@ -127,7 +127,7 @@ module _ (each i at : ℕ) (levels : List ℕ) (is-at : at ≡ i * each) (inside
   pub turn : (w h k done to : ℕ) (rows₀ o₀ rows o rows' o' new : List ℕ) → Taken w h k rows₀ (rowAt each levels) o₀ i done rows o
       → long w h (k + i) 0 ≡ each → AtMost 255 levels → k + i + 1 ≤ 70000
       → rows' ≡ next w h (k + i) rows part
-      → new ≡ eighthsRow (heldIn w h (k + i) rows) part ++ drop (long w h (k + i) 3) (take (length o - done) (drop done o))
+      → new ≡ passThreeRow (heldIn w h (k + i) rows) part ++ drop (long w h (k + i) 3) (take (length o - done) (drop done o))
       → o' ≡ take done o ++ (new ++ drop (length o - done) (drop done o))
       → to ≡ done + long w h (k + i) 3
       → Taken w h k rows₀ (rowAt each levels) o₀ (i + 1) to rows' o'

@@ -4,11 +4,11 @@ use mathlib.Core.List.{List, _++_}
 use Prim.Native.Nat.{ℕ, _+_, _*_, _≤_}
 use native.Mathlib.Omega.{arith}
 use lib.ListN.{length, drop, length-append, length-drop}
-use Rattle.numbers.specs.Lists.{AtMost}
+use Rattle.arithmetic.specs.Lists.{AtMost}
 use Rattle.memory.specs.Memory.{twoOf, Ranges}
 use Rattle.scan.specs.Ring.{lastTwo, heldIn, replaced, next}
 use Rattle.scan.proofs.SixRows.{length-two-of, two-first, two-second, two-third}
-use Rattle.scan.specs.Held.{Held, followed, halvesRow, quartersRow, eighthsRow, step}
+use Rattle.scan.specs.Held.{Held, followed, passOneRow, passTwoRow, passThreeRow, step}
 use Rattle.scan.specs.Asked.{long, Ready}
 use Rattle.scan.proofs.Twos.{length-completed, most-completed, most-replaced, length-replaced, two-next}
 
@@ -20,26 +20,26 @@ module _ (w h k : ℕ) (rows row : List ℕ) (ready : Ready w h k rows) where
   two-long : (pass : ℕ) → pass ≤ 2 → length (twoOf w rows pass) ≡ w + w
   two-long pass few = length-two-of w pass rows (ready .room) few
 
-  pub length-halves : length (halvesRow before row) ≡ long w h k 1
-  unfolding halvesRow heldIn
-  length-halves = length-completed w h k 1 (twoOf w rows 0) row (two-long 0 (omega arith))
+  pub length-pass-one : length (passOneRow before row) ≡ long w h k 1
+  unfolding passOneRow heldIn
+  length-pass-one = length-completed w h k 1 (twoOf w rows 0) row (two-long 0 (omega arith))
 
-  pub length-quarters : length (quartersRow before row) ≡ long w h k 2
-  unfolding quartersRow heldIn
-  length-quarters = length-completed w h k 2 (twoOf w rows 1) (halvesRow before row) (two-long 1 (omega arith))
+  pub length-pass-two : length (passTwoRow before row) ≡ long w h k 2
+  unfolding passTwoRow heldIn
+  length-pass-two = length-completed w h k 2 (twoOf w rows 1) (passOneRow before row) (two-long 1 (omega arith))
 
-  pub length-eighths : length (eighthsRow before row) ≡ long w h k 3
-  unfolding eighthsRow heldIn
-  length-eighths = length-completed w h k 3 (twoOf w rows 2) (quartersRow before row) (two-long 2 (omega arith))
+  pub length-pass-three : length (passThreeRow before row) ≡ long w h k 3
+  unfolding passThreeRow heldIn
+  length-pass-three = length-completed w h k 3 (twoOf w rows 2) (passTwoRow before row) (two-long 2 (omega arith))
 
   module _ (levels : AtMost 255 row) where
-    pub most-halves : AtMost 510 (halvesRow before row)
-    unfolding halvesRow heldIn
-    most-halves = most-completed w h k 1 (twoOf w rows 0) row 255 (ready .ranges .levels) levels
+    pub most-pass-one : AtMost 510 (passOneRow before row)
+    unfolding passOneRow heldIn
+    most-pass-one = most-completed w h k 1 (twoOf w rows 0) row 255 (ready .ranges .levels) levels
 
-    pub most-quarters : AtMost 1020 (quartersRow before row)
-    unfolding quartersRow heldIn
-    most-quarters = most-completed w h k 2 (twoOf w rows 1) (halvesRow before row) 510 (ready .ranges .halves) most-halves
+    pub most-pass-two : AtMost 1020 (passTwoRow before row)
+    unfolding passTwoRow heldIn
+    most-pass-two = most-completed w h k 2 (twoOf w rows 1) (passOneRow before row) 510 (ready .ranges .halves) most-pass-one
 
     -- ---- the rows then
     module _ (row-long : length row ≡ long w h k 0) where
@@ -47,19 +47,19 @@ module _ (w h k : ℕ) (rows row : List ℕ) (ready : Ready w h k rows) where
       a = replaced w k (twoOf w rows 0) row
 
       abbrev b : List ℕ
-      b = replaced w k (twoOf w rows 1) (halvesRow before row)
+      b = replaced w k (twoOf w rows 1) (passOneRow before row)
 
       abbrev c : List ℕ
-      c = replaced w k (twoOf w rows 2) (quartersRow before row)
+      c = replaced w k (twoOf w rows 2) (passTwoRow before row)
 
       long-a : length a ≡ w + w
       long-a = length-replaced w h k 0 (twoOf w rows 0) row (two-long 0 (omega arith)) row-long
 
       long-b : length b ≡ w + w
-      long-b = length-replaced w h k 1 (twoOf w rows 1) (halvesRow before row) (two-long 1 (omega arith)) length-halves
+      long-b = length-replaced w h k 1 (twoOf w rows 1) (passOneRow before row) (two-long 1 (omega arith)) length-pass-one
 
       long-c : length c ≡ w + w
-      long-c = length-replaced w h k 2 (twoOf w rows 2) (quartersRow before row) (two-long 2 (omega arith)) length-quarters
+      long-c = length-replaced w h k 2 (twoOf w rows 2) (passTwoRow before row) (two-long 2 (omega arith)) length-pass-two
 
       first-is : twoOf w (next w h k rows row) 0 ≡ a
       unfolding next
@@ -82,22 +82,22 @@ module _ (w h k : ℕ) (rows row : List ℕ) (ready : Ready w h k rows) where
       ranges-next : Ranges w (next w h k rows row)
       ranges-next = record {
         levels = rw first-is (most-replaced w h k 0 (twoOf w rows 0) row 255 (ready .ranges .levels) levels);
-        halves = rw second-is (most-replaced w h k 1 (twoOf w rows 1) (halvesRow before row) 510 (ready .ranges .halves) most-halves);
+        halves = rw second-is (most-replaced w h k 1 (twoOf w rows 1) (passOneRow before row) 510 (ready .ranges .halves) most-pass-one);
         quarters =
-            rw third-is (most-replaced w h k 2 (twoOf w rows 2) (quartersRow before row) 1020 (ready .ranges .quarters) most-quarters);
+            rw third-is (most-replaced w h k 2 (twoOf w rows 2) (passTwoRow before row) 1020 (ready .ranges .quarters) most-pass-two);
       }
 
       pub ready-next : k + 1 ≤ 70000 → Ready w h (k + 1) (next w h k rows row)
       ready-next few =
-          record { wide = ready .wide; high = ready .high; few = few; room = rw length-next (ready .room); ranges = ranges-next }
+          record { width = ready .width; height = ready .height; few = few; room = rw length-next (ready .room); ranges = ranges-next }
 
       -- what they hold is what was held and the row
       pub held-next : heldIn w h (k + 1) (next w h k rows row) ≡ step before row
       unfolding heldIn step
       held-next = λ i. record {
         levels = (ap (lastTwo w h (k + 1) 1) first-is ∙ followed-by 0 0 (omega arith) row row-long) i;
-        halves = (ap (lastTwo w h (k + 1) 2) second-is ∙ followed-by 1 1 (omega arith) (halvesRow before row) length-halves) i;
-        quarters = (ap (lastTwo w h (k + 1) 3) third-is ∙ followed-by 2 2 (omega arith) (quartersRow before row) length-quarters) i;
+        halves = (ap (lastTwo w h (k + 1) 2) second-is ∙ followed-by 1 1 (omega arith) (passOneRow before row) length-pass-one) i;
+        quarters = (ap (lastTwo w h (k + 1) 3) third-is ∙ followed-by 2 2 (omega arith) (passTwoRow before row) length-pass-two) i;
       }
         where
           followed-by : (pass late : ℕ) → pass ≤ 2 → (r : List ℕ) → length r ≡ long w h k late

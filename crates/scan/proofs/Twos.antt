@@ -7,9 +7,9 @@ use Prim.Native.Nat.{ℕ, _+_, _-_, _*_, _%_, _≤_}
 use native.Mathlib.Nat.{mul-le-mul-right}
 use native.Mathlib.Omega.{arith}
 use lib.ListN.{length, take, drop}
-use Rattle.numbers.specs.Lists.{AtMost, over}
-use Rattle.numbers.proofs.Lists.{no-elements}
-use Rattle.numbers.proofs.Writing.{length-over}
+use Rattle.arithmetic.specs.Lists.{AtMost, over}
+use Rattle.arithmetic.proofs.Lists.{no-elements}
+use Rattle.arithmetic.proofs.Writing.{length-over}
 use Rattle.filter.specs.Median.{rowOf}
 use Rattle.filter.specs.Row.{Beside, RowOutcome, RowIs}
 use Rattle.filter.proofs.Blocks.{length-row}

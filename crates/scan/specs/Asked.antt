@@ -5,7 +5,7 @@ use mathlib.Core.List.{List}
 use Prim.Native.Nat.{ℕ, _+_, _-_, _*_, _≤_, _<_}
 use lib.Dec.{leb, ltb}
 use lib.ListN.{length}
-use Rattle.numbers.specs.Lists.{AtMost}
+use Rattle.arithmetic.specs.Lists.{AtMost}
 use Rattle.filter.specs.Row.{Beside}
 use Rattle.picture.specs.Picture.{Side}
 use Rattle.memory.specs.Memory.{rowAt, Ranges}
@@ -18,25 +18,25 @@ long w h k late = cond (leb late k) (cond (ltb (k - late) h) w 0) 0
 
 -- two rows, and one that comes below them: of w numbers or none
 pub record Below (w k late : ℕ) (two row : List ℕ) : Type 0 where
-  pub wide : w ≤ 1024
-  pub few : k ≤ 70000
+  pub width : w ≤ 1_024
+  pub few : k ≤ 70_000
   pub soon : late ≤ 3
   pub room : length two ≡ w + w
-  pub small : AtMost 1020 two
+  pub small : AtMost 1_020 two
   pub beside : Beside w (length row)
-  pub small-row : AtMost 1020 row
+  pub small-row : AtMost 1_020 row
 
 -- the six rows of a memory, once k rows have come
 pub record Ready (w h k : ℕ) (rows : List ℕ) : Type 0 where
-  pub wide : Side w
-  pub high : h ≤ 1024
-  pub few : k ≤ 70000
+  pub width : Side w
+  pub height : h ≤ 1_024
+  pub few : k ≤ 70_000
   pub room : 6 * w ≤ length rows
   pub ranges : Ranges w rows
 
 -- n rows of `each` levels that come after k, and room for what they complete
 pub record Coming (w h k each n : ℕ) (rows levels output : List ℕ) : Type 0 where
-  pub few : k + n ≤ 70000
+  pub few : k + n ≤ 70_000
   pub rows-are : (i : ℕ) → i < n → long w h (k + i) 0 ≡ each
   pub levels-are : length levels ≡ n * each
   pub room : length (given (heldIn w h k rows) (rowAt each levels) n) ≤ length output

@@ -1,7 +1,7 @@
 -- Document 02, P1: what is held while rows come, and what one row more does. A row that is not there is [].
 use mathlib.Core.List.{List, []}
 use Prim.Native.Nat.{ℕ, zero, suc}
-use Rattle.numbers.specs.Lists.{joined}
+use Rattle.arithmetic.specs.Lists.{joined}
 use Rattle.filter.specs.Median.{rowOf}
 
 -- the last two rows of the levels or of a pass, one below the other
@@ -31,21 +31,21 @@ nothing = record { levels = noRows; halves = noRows; quarters = noRows }
 
 -- what a row r of levels completes: a row of pass one, with that a row of pass two, and with that a row of pass three, which so is
 -- the row three above r ("with the call that brings the third row below it")
-unfoldable pub halvesRow : Held → List ℕ → List ℕ
-halvesRow held r = completed (held .levels) r
+unfoldable pub passOneRow : Held → List ℕ → List ℕ
+passOneRow held r = completed (held .levels) r
 
-unfoldable pub quartersRow : Held → List ℕ → List ℕ
-quartersRow held r = completed (held .halves) (halvesRow held r)
+unfoldable pub passTwoRow : Held → List ℕ → List ℕ
+passTwoRow held r = completed (held .halves) (passOneRow held r)
 
-unfoldable pub eighthsRow : Held → List ℕ → List ℕ
-eighthsRow held r = completed (held .quarters) (quartersRow held r)
+unfoldable pub passThreeRow : Held → List ℕ → List ℕ
+passThreeRow held r = completed (held .quarters) (passTwoRow held r)
 
 -- what is held once r has come
 unfoldable pub step : Held → List ℕ → Held
 step held r = record {
   levels = followed (held .levels) r;
-  halves = followed (held .halves) (halvesRow held r);
-  quarters = followed (held .quarters) (quartersRow held r);
+  halves = followed (held .halves) (passOneRow held r);
+  quarters = followed (held .quarters) (passTwoRow held r);
 }
 
 -- what is held once n rows f 0, f 1, .. have come, and the rows of pass three that they complete, one after the other
@@ -54,7 +54,7 @@ after held f zero = held
 after held f (suc n) = step (after held f n) (f n)
 
 unfoldable pub given : Held → (ℕ → List ℕ) → ℕ → List ℕ
-given held f n = joined n (λ i. eighthsRow (after held f i) (f i))
+given held f n = joined n (λ i. passThreeRow (after held f i) (f i))
 
 -- no row, again and again
 unfoldable pub noRow : ℕ → List ℕ

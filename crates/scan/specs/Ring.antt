@@ -6,9 +6,9 @@ use mathlib.Core.List.{List, [], _++_}
 use Prim.Native.Nat.{ℕ, zero, suc, _+_, _-_, _*_, _%_}
 use lib.Dec.{leb, ltb}
 use lib.ListN.{drop}
-use Rattle.numbers.specs.Lists.{over}
+use Rattle.arithmetic.specs.Lists.{over}
 use Rattle.memory.specs.Memory.{rowAt, twoOf}
-use Rattle.scan.specs.Held.{Two, Held, halvesRow, quartersRow}
+use Rattle.scan.specs.Held.{Two, Held, passOneRow, passTwoRow}
 
 -- ---- what they hold once k rows came
 -- a row, if row k − late is one of the picture's h; above the first and below the last there is none
@@ -39,8 +39,8 @@ replaced w k two r = over two (k % 2 * w) r
 unfoldable pub next : ℕ → ℕ → ℕ → List ℕ → List ℕ → List ℕ
 next w h k rows r =
     replaced w k (twoOf w rows 0) r
-    ++ replaced w k (twoOf w rows 1) (halvesRow (heldIn w h k rows) r)
-    ++ replaced w k (twoOf w rows 2) (quartersRow (heldIn w h k rows) r)
+    ++ replaced w k (twoOf w rows 1) (passOneRow (heldIn w h k rows) r)
+    ++ replaced w k (twoOf w rows 2) (passTwoRow (heldIn w h k rows) r)
     ++ drop (6 * w) rows
 
 -- and once n rows f 0, f 1, .. have come after k

@@ -3,7 +3,7 @@ use mathlib.Core.Path.{_≡_}
 use mathlib.Core.List.{List, _++_}
 use Prim.Native.Nat.{ℕ, _+_, _-_, _*_, _/_, _%_, _≤_, min}
 use lib.ListN.{length, drop}
-use Rattle.numbers.specs.Refusals.{Unless}
+use Rattle.answers.specs.Refusals.{Unless}
 use Rattle.memory.specs.Memory.{widthOf, heightOf, cameOf, rowsOf, memory, zeros, rowAt, Begun}
 use Rattle.scan.specs.Held.{given, noRow}
 use Rattle.scan.specs.Ring.{heldIn, later}
@@ -35,7 +35,7 @@ unfoldable pub rowsHeld : List ℕ → List ℕ → List ℕ
 rowsHeld held levels =
     memory (widthOf held) (heightOf held) (cameOf held + length levels / widthOf held)
     (later (widthOf held) (heightOf held) (cameOf held) (rowsOf held) (rowAt (widthOf held) levels) (length levels / widthOf held))
-    (drop 6147 held)
+    (drop 6_147 held)
 
 -- "Refusals: 1, also before a good start, then 20 for a number of levels that is no whole number of rows, 21 for rows beyond the
 -- height, .. then 3 where the output is shorter than the rows due from this call." "A refused call changes nothing held."
@@ -61,5 +61,5 @@ EndIs held output r =
     (Unless (cameOf held ≡ heightOf held) (r ≡ scanned 22 0 held output)
     (Unless (min 3 (heightOf held) * widthOf held ≤ length output) (r ≡ scanned 3 0 held output)
     (r ≡ scanned 0 (min 3 (heightOf held))
-    (memory (widthOf held) (heightOf held) (heightOf held + 3) (zeros 6144) (drop 6147 held))
+    (memory (widthOf held) (heightOf held) (heightOf held + 3) (zeros 6_144) (drop 6_147 held))
     (atFront (endGiven held) output))))

@@ -3,7 +3,7 @@
 // rows that are still needed, and nothing else; steps.rt takes the rows that come, one by one.
 ghost use mathlib.Core.Path.{_≡_};
 ghost use Rattle.scan.specs.Scan.{scanned, RowsIs, EndIs};
-use numbers::table;
+use answers::table;
 
 mod steps;
 
@@ -28,22 +28,31 @@ pub fn rows(held: &mut [u16], levels: &[u8], output: &mut [u16]) -> Given
     if !memory::begun(held) {
         return refuse(table::SIDE_OUT_OF_RANGE);
     }
-    let w = held[0] as usize;
-    let h = held[1] as usize;
-    let k = held[2] as usize;
-    if levels.len() % w != 0 {
+    let width = held[0] as usize;
+    let height = held[1] as usize;
+    let came = held[2] as usize;
+    if levels.len() % width != 0 {
         return refuse(table::PART_OF_A_ROW);
     }
-    let n = levels.len() / w;
-    if steps::less(h, k) < n {
+    let n = levels.len() / width;
+    if steps::less(height, came) < n {
         return refuse(table::ROWS_BEYOND);
     }
-    let due = steps::less(k + n, 3) - steps::less(k, 3);
-    if output.len() < due * w {
+    let due = steps::less(came + n, 3) - steps::less(came, 3);
+    if output.len() < due * width {
         return refuse(table::SHORT_OUTPUT);
     }
-    steps::take_rows(&mut held[3..6147], w, h, k, w, n, levels, output);
-    held[2] = (k + n) as u16;
+    steps::take_rows(
+        &mut held[3..6_147],
+        width,
+        height,
+        came,
+        width,
+        n,
+        levels,
+        output,
+    );
+    held[2] = (came + n) as u16;
     Given {
         number: table::DONE,
         rows: due,
@@ -59,22 +68,31 @@ pub fn end(held: &mut [u16], output: &mut [u16]) -> Given
     if !memory::begun(held) {
         return refuse(table::SIDE_OUT_OF_RANGE);
     }
-    let w = held[0] as usize;
-    let h = held[1] as usize;
-    let k = held[2] as usize;
-    if k != h {
+    let width = held[0] as usize;
+    let height = held[1] as usize;
+    let came = held[2] as usize;
+    if came != height {
         return refuse(table::NOT_THE_END);
     }
-    let due = h - steps::less(h, 3);
-    if output.len() < due * w {
+    let due = height - steps::less(height, 3);
+    if output.len() < due * width {
         return refuse(table::SHORT_OUTPUT);
     }
     // the levels of rows that are not there: none
     let none = [0u8; 1];
-    steps::take_rows(&mut held[3..6147], w, h, k, 0, 3, &none[..0], output);
+    steps::take_rows(
+        &mut held[3..6_147],
+        width,
+        height,
+        came,
+        0,
+        3,
+        &none[..0],
+        output,
+    );
     // zeros for the rows; it is not refused, since the memory is long enough and its sides are a picture's
-    memory::start(held, w, h);
-    held[2] = (h + 3) as u16;
+    memory::start(held, width, height);
+    held[2] = (height + 3) as u16;
     Given {
         number: table::DONE,
         rows: due,

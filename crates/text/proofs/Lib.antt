@@ -1,2 +1,3 @@
 pub mod Spelling
 pub mod Putting
+pub mod Outcomes

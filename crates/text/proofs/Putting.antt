@@ -1,7 +1,7 @@
 -- Texts put into a block: digits, a sign before them, a byte after them. Assumes nothing.
-use mathlib.Core.Path.{_≡_, refl, sym, ap, subst, _∙_}
+use mathlib.Core.Path.{_≡_, refl, ap, subst, _∙_}
 use mathlib.Core.Bool.{true, false, true≢false}
-use mathlib.Core.List.{List, [], _∷_, _++_}
+use mathlib.Core.List.{List, [], _∷_}
 use Prim.Native.Nat.{ℕ, suc, _+_, _^_, _≤_, _<_}
 use native.Mathlib.Omega.{arith}
 use lib.Dec.{lit≤}
@@ -11,13 +11,13 @@ use lib.Signed.{ltZ}
 use borrow.Author.Tests.{ltb-true}
 use Rattle.io.specs.Counts.{Counts}
 use Rattle.io.specs.Digits.{digits, Fewest}
-use Rattle.numbers.specs.Lists.{listed, over}
-use Rattle.numbers.specs.Signed.{natOf}
-use Rattle.numbers.proofs.Refusals.{goes-on, alike, together}
-use Rattle.numbers.proofs.Writing.{listed-take, over-one, over-both, length-over}
+use Rattle.arithmetic.specs.Lists.{listed, over}
+use Rattle.arithmetic.specs.Signed.{natOf}
+use Rattle.answers.proofs.Refusals.{goes-on}
+use Rattle.arithmetic.proofs.Writing.{listed-take, over-one, over-both, length-over}
 use Rattle.text.specs.Text.{Spelled, SpelledSigned, Block, block, PutIs}
 use Rattle.text.specs.Inside.{Digits}
-use Rattle.text.proofs.Spelling.{spelled, one-digit, few-digits, one-text, one-signed-text}
+use Rattle.text.proofs.Spelling.{spelled, one-digit, few-digits}
 
 -- one digit, stored
 pub digit-put : (before : List ℕ) (at n : ℕ) → n < 10 → at < length before
@@ -91,20 +91,3 @@ module _ (Says : List ℕ → Type 0) (most : ℕ) (before bytes : List ℕ) (at
             ∙ (λ i. block (ends i + 1) (over (are i) (ends i) (after ∷ [])))
             ∙ ap (block (at + length (d .text) + 1)) (over-both before at (d .text) (after ∷ []) (omega arith));
       })
-
--- ---- what is put is determined: for a number, and for a signed one, where the block ends and its every byte
-one-block : (Says : List ℕ → Type 0) → ((a b : List ℕ) → Says a → Says b → a ≡ b) → (before : List ℕ) (at after : ℕ) (r r' : Block)
-    → PutIs Says before at after r → PutIs Says before at after r' → r ≡ r'
-one-block Says one before at after r r' =
-    together alike
-    (λ p q. p .put
-    ∙ ap (λ (t : List ℕ). block (at + length t + 1) (over before at (t ++ (after ∷ [])))) (one (p .text) (q .text) (p .says) (q .says))
-    ∙ sym (q .put))
-
-pub one-number : (before : List ℕ) (at n after : ℕ) (r r' : Block) → PutIs (Spelled n) before at after r
-    → PutIs (Spelled n) before at after r' → r ≡ r'
-one-number before at n after = one-block (Spelled n) (one-text n) before at after
-
-pub one-signed : (before : List ℕ) (at : ℕ) (v : ℤ) (after : ℕ) (r r' : Block) → PutIs (SpelledSigned v) before at after r
-    → PutIs (SpelledSigned v) before at after r' → r ≡ r'
-one-signed before at v after = one-block (SpelledSigned v) (one-signed-text v) before at after

@@ -3,7 +3,7 @@ use mathlib.Core.Path.{_≡_}
 use mathlib.Core.List.{List}
 use Prim.Native.Nat.{ℕ, _+_, _≤_}
 use lib.ListN.{length}
-use Rattle.numbers.specs.Lists.{over}
+use Rattle.arithmetic.specs.Lists.{over}
 use Rattle.text.specs.Text.{Block, block}
 
 -- a text that says what it should, of at most so many bytes

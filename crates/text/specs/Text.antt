@@ -5,8 +5,8 @@ use Prim.Native.Nat.{ℕ, suc, _+_, _≤_}
 use lib.IntN.{ℤ, pos, negsuc}
 use lib.ListN.{length}
 use Rattle.io.specs.Digits.{digits, Fewest}
-use Rattle.numbers.specs.Lists.{over}
-use Rattle.numbers.specs.Refusals.{Unless}
+use Rattle.arithmetic.specs.Lists.{over}
+use Rattle.answers.specs.Refusals.{Unless}
 
 -- a number in decimal: its digits, the most significant first, and no more of them than hold it
 pub record Spelled (n : ℕ) (text : List ℕ) : Type 0 where

@@ -5,7 +5,7 @@ ghost use Prim.Native.Nat.{_+_, _≤_};
 ghost use lib.IntN.{pos, natAbs};
 ghost use lib.ListN.{length, getD};
 ghost use lib.Signed.{ltZ};
-ghost use Rattle.numbers.specs.Lists.{listed, over};
+ghost use Rattle.arithmetic.specs.Lists.{listed, over};
 ghost use Rattle.text.specs.Text.{Spelled, SpelledSigned, block as blockOf, PutIs};
 ghost use Rattle.text.specs.Inside.{Digits};
 
@@ -64,14 +64,14 @@ fn signed_digits(block: &mut [u8], at: usize, v: i64) -> usize
         block[at] = b'-';
         return digits(block, at + 1, magnitude(v));
     }
-    digits(block, at, numbers::natural(v))
+    digits(block, at, arithmetic::natural(v))
 }
 
 // How far below 0 a negative number is: its complement is one less.
 fn magnitude(v: i64) -> u64
     ensures { λ r. ⌜ (ltZ v (pos 0) ≡ true → r ≡ natAbs v) ⌝ }
 {
-    std::num::wrapping_add_u64(numbers::natural(!v), 1)
+    std::num::wrapping_add_u64(arithmetic::natural(!v), 1)
 }
 
 // The first `count` bytes of some text, copied into the block from `at` on.

@@ -9,20 +9,20 @@ use lib.Dec.{eqb, lit≤}
 use lib.ListN.{length, set, replicate, length-set, length-replicate, getD-replicate}
 use lib.Seq.{getD-set-same, getD-set-other}
 use borrow.Author.Tests.{eq-eqb, ne-eqb}
-use Rattle.numbers.specs.Lists.{AtMost}
-use Rattle.numbers.proofs.Refusals.{goes-on}
-use Rattle.numbers.proofs.Lists.{most-equal}
-use Rattle.numbers.proofs.Sums.{sum-equal}
+use Rattle.arithmetic.specs.Lists.{AtMost}
+use Rattle.answers.proofs.Refusals.{goes-on}
+use Rattle.arithmetic.proofs.Lists.{most-equal}
+use Rattle.arithmetic.proofs.Sums.{sum-equal}
 use Rattle.threshold.specs.Histogram.{countOf, Countable, Tally, tally, CountIs}
 use Rattle.threshold.specs.Asked.{addedUpTo, Added}
 use Rattle.threshold.proofs.Histograms.{counts-none, counts-more, count-done}
-use Rattle.threshold.proofs.Outcomes.{one-tally}
+use Rattle.threshold.proofs.Outcomes.{one-count}
 
 -- the counts of values that can be counted are what counting leaves, and nothing else is
 no-other : (values counts h : List ℕ) (r : Tally) → Countable values → Added values (length values) counts → length h ≡ 256
     → CountIs values h r → r ≡ tally 0 counts
 no-other values counts h r ok all places is =
-    one-tally values h r (tally 0 counts) is (goes-on places (goes-on ok (count-done values counts counts ok all refl)))
+    one-count values h r (tally 0 counts) is (goes-on places (goes-on ok (count-done values counts counts ok all refl)))
 
 -- ---- equal values
 -- n values x add n at the level of x, and nothing elsewhere

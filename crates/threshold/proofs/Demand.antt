@@ -8,10 +8,10 @@ use Prim.Native.Nat.{ℕ, zero, suc, _+_, _-_, _*_, _<_, _≤_}
 use native.Mathlib.Nat.{le-antisymm}
 use native.Mathlib.Omega.{arith}
 use lib.ListN.{length}
-use Rattle.numbers.specs.declared.Fraction.{Fraction}
-use Rattle.numbers.specs.Greatest.{Least}
-use Rattle.numbers.specs.Fractions.{Equal}
-use Rattle.numbers.proofs.Greatest.{one-least, least-found}
+use Rattle.arithmetic.specs.declared.Fraction.{Fraction}
+use Rattle.arithmetic.specs.Greatest.{Least}
+use Rattle.arithmetic.specs.Fractions.{Equal}
+use Rattle.arithmetic.proofs.Greatest.{one-least, least-found}
 use Rattle.threshold.specs.Histogram.{total}
 use Rattle.threshold.specs.TwoMeans.{start, round, Within, Rests, threshold, LiesBetween, Settled}
 use Rattle.threshold.proofs.Rounds.{same-threshold}

@@ -9,21 +9,21 @@ use native.Mathlib.Nat.{pos-of-ne-zero, zero-add}
 use native.Mathlib.Decide.{decLe, ℕ-discrete}
 use native.Mathlib.Omega.{arith}
 use lib.ListN.{length}
-use Rattle.numbers.specs.declared.Fraction.{Fraction}
-use Rattle.numbers.specs.Greatest.{Least}
-use Rattle.numbers.specs.Sums.{sum}
-use Rattle.numbers.specs.Fractions.{fraction}
-use Rattle.numbers.proofs.Greatest.{not-yet}
-use Rattle.numbers.proofs.Fractions.{one-pair-or-not}
-use Rattle.numbers.proofs.Refusals.{goes-on}
-use Rattle.numbers.proofs.Computed.{when, EveryRow, every-row}
+use Rattle.arithmetic.specs.declared.Fraction.{Fraction}
+use Rattle.arithmetic.specs.Greatest.{Least}
+use Rattle.arithmetic.specs.Sums.{sum}
+use Rattle.arithmetic.specs.Fractions.{fraction}
+use Rattle.arithmetic.proofs.Greatest.{not-yet}
+use Rattle.arithmetic.proofs.Fractions.{one-pair-or-not}
+use Rattle.answers.proofs.Refusals.{goes-on}
+use Rattle.arithmetic.proofs.Computed.{when, EveryRow, every-row}
 use Rattle.threshold.specs.declared.Threshold.{Threshold}
 use Rattle.threshold.specs.Histogram.{total}
 use Rattle.threshold.specs.TwoMeans.{level, start, sumOver, round, Rests, threshold, Settled, answered, TwoMeansIs}
 use Rattle.threshold.specs.Worked.{histogram, Walk}
 use Rattle.threshold.proofs.Sequence.{within-or-not, rests-or-not}
 use Rattle.threshold.proofs.Demand.{RestsAt, settled}
-use Rattle.threshold.proofs.Outcomes.{one-threshold}
+use Rattle.threshold.proofs.Outcomes.{one-two-means}
 
 -- ---- a walk
 -- whether these are its thresholds
@@ -87,7 +87,7 @@ module _ (h : List ℕ) (v : ℕ) (l : List Fraction) (t : Threshold) where
   holds =
       Option·map (λ p.
       let walk = p .1 .1 in
-      (walk .0, (walk .1, λ u is. one-threshold h u t is (permitted (p .0) (p .1 .0) (walk .0) (walk .1)))))
+      (walk .0, (walk .1, λ u is. one-two-means h u t is (permitted (p .0) (p .1 .0) (walk .0) (walk .1)))))
       (when tests)
 
 -- the same of a row of the table

@@ -2,8 +2,8 @@
 use Prim.Native.Nat.{_*_, _≤_}
 use native.Mathlib.Nat.{mul-le-mul-right, mul-pos, eq-of-mul-eq-mul-right}
 use native.Mathlib.Omega.{arith}
-use Rattle.numbers.specs.declared.Fraction.{Fraction}
-use Rattle.numbers.specs.Fractions.{Proper, Equal, NotMore}
+use Rattle.arithmetic.specs.declared.Fraction.{Fraction}
+use Rattle.arithmetic.specs.Fractions.{Proper, Equal, NotMore}
 use Rattle.threshold.specs.TwoMeans.{halfSum}
 
 -- L not more than M and H not more than N, each multiplied by what the denominators of the half sums have beyond its own:

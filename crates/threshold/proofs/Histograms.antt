@@ -12,11 +12,11 @@ use lib.Dec.{eqb}
 use lib.ListN.{length, getD, set, replicate, length-set, length-replicate, getD-replicate}
 use lib.Seq.{getD-set-same, getD-set-other}
 use borrow.Author.Tests.{eq-eqb, ne-eqb}
-use Rattle.numbers.specs.Refusals.{Unless}
-use Rattle.numbers.specs.Lists.{AtMost}
-use Rattle.numbers.specs.Sums.{sum}
-use Rattle.numbers.proofs.Refusals.{stops, goes-on}
-use Rattle.numbers.proofs.Sums.{sum-none, sum-more, sum-most, sum-same, sum-add}
+use Rattle.answers.specs.Refusals.{Unless}
+use Rattle.arithmetic.specs.Lists.{AtMost}
+use Rattle.arithmetic.specs.Sums.{sum}
+use Rattle.answers.proofs.Refusals.{stops, goes-on}
+use Rattle.arithmetic.proofs.Sums.{sum-none, sum-more, sum-most, sum-same, sum-add}
 use Rattle.threshold.specs.Histogram.{addedAt, countOf, total, Countable, tally, Counted}
 use Rattle.threshold.specs.Asked.{addedUpTo, Added}
 

@@ -9,7 +9,7 @@ use native.Mathlib.Omega.{arith}
 use lib.Dec.{lit≤}
 use lib.ListN.{length}
 use lib.Seq.{ext-getD}
-use Rattle.numbers.proofs.Refusals.{past, alike, together}
+use Rattle.answers.proofs.Refusals.{past, alike, together}
 use Rattle.threshold.specs.declared.Threshold.{Threshold}
 use Rattle.threshold.specs.Histogram.{Countable, Tally, tally, Counted, CountIs}
 use Rattle.threshold.specs.TwoMeans.{highest, threshold, answered, refused, Done, TwoMeansIs}
@@ -25,8 +25,8 @@ one-histogram values a b p q =
     (λ v h. let here : v < 256 = omega (arith, p .places) in alike (p .counts v here) (q .counts v here))
 
 -- the answer is determined: two outcomes that the promise permits are one
-pub one-tally : (values histogram : List ℕ) (a b : Tally) → CountIs values histogram a → CountIs values histogram b → a ≡ b
-one-tally values histogram a b =
+pub one-count : (values histogram : List ℕ) (a b : Tally) → CountIs values histogram a → CountIs values histogram b → a ≡ b
+one-count values histogram a b =
     together alike (together alike (λ p q i. tally (alike (p .number) (q .number) i) (one-histogram values a b p q i)))
 
 -- a refused call does not answer 0
@@ -47,8 +47,8 @@ when-refused values histogram r some (inr (places, inr counted)) = absurd (some 
 
 -- ---- the two means
 -- the answer is determined: two thresholds that the promise permits are one
-pub one-threshold : (h : List ℕ) (a b : Threshold) → TwoMeansIs h a → TwoMeansIs h b → a ≡ b
-one-threshold h a b =
+pub one-two-means : (h : List ℕ) (a b : Threshold) → TwoMeansIs h a → TwoMeansIs h b → a ≡ b
+one-two-means h a b =
     together alike (together alike (together alike
     (λ p q.
     let number = alike (p .number) (q .number) in

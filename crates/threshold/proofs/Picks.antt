@@ -6,7 +6,7 @@ use Prim.Native.Nat.{ℕ, zero, suc, _+_, _*_, _<_, _≤_}
 use native.Mathlib.Nat.{eq-or-lt-of-le}
 use native.Mathlib.Omega.{arith}
 use borrow.Author.Tests.{not-true}
-use Rattle.numbers.specs.Sums.{sum}
+use Rattle.arithmetic.specs.Sums.{sum}
 use Rattle.threshold.specs.TwoMeans.{sumOver}
 
 -- every level that p picks, q picks too

@@ -8,10 +8,10 @@ use native.Mathlib.Omega.{arith}
 use lib.Dec.{eqb}
 use lib.ListN.{length, List·getD-eq-default}
 use borrow.Author.Tests.{eqb-true, eqb-false, ne-eqb, lt-ltb, le-ltb}
-use Rattle.numbers.specs.Greatest.{Greatest, Least}
-use Rattle.numbers.specs.Sums.{sum}
-use Rattle.numbers.proofs.Greatest.{next-least}
-use Rattle.numbers.proofs.Sums.{sum-goes-on}
+use Rattle.arithmetic.specs.Greatest.{Greatest, Least}
+use Rattle.arithmetic.specs.Sums.{sum}
+use Rattle.arithmetic.proofs.Greatest.{next-least}
+use Rattle.arithmetic.proofs.Sums.{sum-goes-on}
 use Rattle.threshold.specs.Histogram.{countOf, total}
 use Rattle.threshold.specs.TwoMeans.{level, lowest, highest, start}
 
@@ -113,6 +113,6 @@ module _ (m : ℕ) (h : List ℕ) {low high : ℕ} (is-low : low ≡ lowest h) (
   unfolding start
   start-high from above = rw (← is-low, ← is-high, le-ltb m low from, lt-ltb high m above)
 
-  pub start-middle : low ≤ m → m ≤ high → level m ≡ start m h
+  pub start-usual : low ≤ m → m ≤ high → level m ≡ start m h
   unfolding start
-  start-middle from to = rw (← is-low, ← is-high, le-ltb m low from, le-ltb high m to)
+  start-usual from to = rw (← is-low, ← is-high, le-ltb m low from, le-ltb high m to)

@@ -9,9 +9,9 @@ use native.Mathlib.Nat.{mul-le-mul-right, le-of-mul-le-mul-right, eq-of-mul-eq-m
 use native.Mathlib.Omega.{arith}
 use lib.ListN.{length}
 use borrow.Author.Tests.{leb-true, leb-false, le-leb}
-use Rattle.numbers.specs.declared.Fraction.{Fraction}
-use Rattle.numbers.specs.Fractions.{fraction, Proper, Equal, NotMore}
-use Rattle.numbers.proofs.Fractions.{not-more-trans, either-way}
+use Rattle.arithmetic.specs.declared.Fraction.{Fraction}
+use Rattle.arithmetic.specs.Fractions.{fraction, Proper, Equal, NotMore}
+use Rattle.arithmetic.proofs.Fractions.{not-more-trans, either-way}
 use Rattle.threshold.specs.Histogram.{countOf}
 use Rattle.threshold.specs.TwoMeans.{level, low, high, sumOver, levelSum, mean, round}
 use Rattle.threshold.proofs.Picks.{Sub, beyond, beyond-is, over-in-two, over-le, over-zero, over-times, over-add}

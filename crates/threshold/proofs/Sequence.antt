@@ -11,10 +11,10 @@ use native.Mathlib.Omega.{arith}
 use lib.Dec.{ltb}
 use lib.ListN.{length}
 use borrow.Author.Tests.{le-leb, ltb-false}
-use Rattle.numbers.specs.declared.Fraction.{Fraction}
-use Rattle.numbers.specs.Fractions.{Proper, Equal, NotMore}
-use Rattle.numbers.proofs.Sums.{sum-most}
-use Rattle.numbers.proofs.Fractions.{not-more-trans, either-way}
+use Rattle.arithmetic.specs.declared.Fraction.{Fraction}
+use Rattle.arithmetic.specs.Fractions.{Proper, Equal, NotMore}
+use Rattle.arithmetic.proofs.Sums.{sum-most}
+use Rattle.arithmetic.proofs.Fractions.{not-more-trans, either-way}
 use Rattle.threshold.specs.Histogram.{countOf, total}
 use Rattle.threshold.specs.TwoMeans.{level, lowest, highest, nearest, start, low, high, sumOver, levelSum, round, Within, Rests, threshold}
 use Rattle.threshold.proofs.Present.{lowest-is, highest-is, lowest-below, highest-below}
@@ -64,22 +64,22 @@ abbrev one : ℕ → ℕ
 one v = 1
 
 -- where a threshold stands, in halves of a level: how many levels are up to it, and how many are not from it on
-unfoldable place : List ℕ → Fraction → ℕ
-place h T = sumOver (length h) (low T) one + (length h - sumOver (length h) (high T) one)
+unfoldable position : List ℕ → Fraction → ℕ
+position h T = sumOver (length h) (low T) one + (length h - sumOver (length h) (high T) one)
 
 -- of n levels at most n are picked
 at-most-all : (n : ℕ) (p : ℕ → Bool) → sumOver n p one ≤ n
 at-most-all n p = omega (arith, over-part n p one, sum-most 1 n one (λ v. omega arith))
 
 module _ (h : List ℕ) (T U : Fraction) (pT : Proper T) (pU : Proper U) where
-  -- the larger the threshold, the later its place
-  place-grows : NotMore T U → place h T ≤ place h U
-  unfolding place
-  place-grows l = omega (arith, low-more h T U pT pU l one, high-fewer h T U pT pU l one)
+  -- the larger the threshold, the later its position
+  position-grows : NotMore T U → position h T ≤ position h U
+  unfolding position
+  position-grows l = omega (arith, low-more h T U pT pU l one, high-fewer h T U pT pU l one)
 
-  -- in one place a round gives one pair: in order
-  same-below : NotMore T U → place h T ≡ place h U → round h T ≡ round h U
-  unfolding place
+  -- in one position a round gives one pair: in order
+  same-below : NotMore T U → position h T ≡ position h U → round h T ≡ round h U
+  unfolding position
   same-below l e =
       let x = low-more h T U pT pU l one in
       let y = high-fewer h T U pT pU l one in
@@ -87,8 +87,8 @@ module _ (h : List ℕ) (T U : Fraction) (pT : Proper T) (pU : Proper U) where
       same-split h T U pT pU l one (λ v z. absurd (let none : ⊥ = omega (arith, z) in none)) (omega (arith, x, y, z)) (omega (arith, x, y, z))
 
 -- and whichever of the two is larger
-same-place : (h : List ℕ) (T U : Fraction) → Proper T → Proper U → place h T ≡ place h U → round h T ≡ round h U
-same-place h T U pT pU e =
+same-position : (h : List ℕ) (T U : Fraction) → Proper T → Proper U → position h T ≡ position h U → round h T ≡ round h U
+same-position h T U pT pU e =
     ⊎-elim (λ l. same-below h T U pT pU l e) (λ l. sym (same-below h U T pU pT l (sym e))) (either-way T U)
 
 -- m, or the nearest of two ends, lies from one end to the other
@@ -164,10 +164,10 @@ module _ (h : List ℕ) (some : 0 < total h) where
               );
         }
 
-    -- where there are n levels, the places are 1 to 2·n − 1
-    place-within : (0 < place h T) × (place h T ≤ 2 * length h - 1)
-    unfolding place
-    place-within = omega (arith, low-has one, high-has one, at-most-all (length h) (low T), at-most-all (length h) (high T))
+    -- where there are n levels, the positions are 1 to 2·n − 1
+    position-within : (0 < position h T) × (position h T ≤ 2 * length h - 1)
+    unfolding position
+    position-within = omega (arith, low-has one, high-has one, at-most-all (length h) (low T), at-most-all (length h) (high T))
 
   -- the start and all that follows lie from the lowest to the highest level
   pub start-within : (m : ℕ) → Within h (start m h)
@@ -230,26 +230,26 @@ module _ (h : List ℕ) (some : 0 < total h) where
         (λ l. inr (in-order (λ k. threshold m h (suc k)) (threshold m h) later thresholds l))
         (either-way (threshold m h 0) (threshold m h 1))
 
-    -- a round within one place ends at rest
-    rests-there : (k : ℕ) → place h (threshold m h (suc k)) ≡ place h (threshold m h k) → Rests h (threshold m h (suc k))
+    -- a round within one position ends at rest
+    rests-there : (k : ℕ) → position h (threshold m h (suc k)) ≡ position h (threshold m h k) → Rests h (threshold m h (suc k))
     unfolding threshold
     rests-there k e =
         let T : Fraction = threshold m h k in
         let U : Fraction = threshold m h (suc k) in
         let w : Within h U = threshold-within m (suc k) in
-        given-back (suc k) (subst (λ (R : Fraction). Equal R U) (same-place h T U (threshold-within m k .proper) (w .proper) (sym e)) refl)
+        given-back (suc k) (subst (λ (R : Fraction). Equal R U) (same-position h T U (threshold-within m k .proper) (w .proper) (sym e)) refl)
 
-    -- the places go one way too
-    places-one-way : ((k : ℕ) → place h (threshold m h k) ≤ place h (threshold m h (suc k)))
-        ⊎ ((k : ℕ) → place h (threshold m h (suc k)) ≤ place h (threshold m h k))
-    places-one-way =
+    -- the positions go one way too
+    positions-one-way : ((k : ℕ) → position h (threshold m h k) ≤ position h (threshold m h (suc k)))
+        ⊎ ((k : ℕ) → position h (threshold m h (suc k)) ≤ position h (threshold m h k))
+    positions-one-way =
         ⊎-elim (λ up. inl (λ k. grows k (suc k) (up k))) (λ down. inr (λ k. grows (suc k) k (down k))) one-way
       where
-        grows : (j k : ℕ) → NotMore (threshold m h j) (threshold m h k) → place h (threshold m h j) ≤ place h (threshold m h k)
-        grows j k = place-grows h (threshold m h j) (threshold m h k) (threshold-within m j .proper) (threshold-within m k .proper)
+        grows : (j k : ℕ) → NotMore (threshold m h j) (threshold m h k) → position h (threshold m h j) ≤ position h (threshold m h k)
+        grows j k = position-grows h (threshold m h j) (threshold m h k) (threshold-within m j .proper) (threshold-within m k .proper)
 
     -- so the sequence comes to rest, after at most 2·n − 1 rounds
     pub comes-to-rest : (k : ℕ) × (k ≤ 2 * length h - 1) × Rests h (threshold m h k)
     comes-to-rest =
-        let r = stands-still (2 * length h - 1) (λ k. place h (threshold m h k)) (λ k. place-within (threshold m h k) (threshold-within m k)) places-one-way in
+        let r = stands-still (2 * length h - 1) (λ k. position h (threshold m h k)) (λ k. position-within (threshold m h k) (threshold-within m k)) positions-one-way in
         (suc (r .0), r .1, rests-there (r .0) (r .2))

@@ -6,9 +6,9 @@ use native.Mathlib.Nat.{mul-le-mul}
 use native.Mathlib.Numerals.{add-one}
 use native.Mathlib.Omega.{arith}
 use lib.ListN.{length}
-use Rattle.numbers.specs.declared.Fraction.{Fraction}
-use Rattle.numbers.specs.Fractions.{fraction, Equal}
-use Rattle.numbers.proofs.Greatest.{not-yet}
+use Rattle.arithmetic.specs.declared.Fraction.{Fraction}
+use Rattle.arithmetic.specs.Fractions.{fraction, Equal}
+use Rattle.arithmetic.proofs.Greatest.{not-yet}
 use Rattle.threshold.specs.Histogram.{total}
 use Rattle.threshold.specs.TwoMeans.{level, highest, start, round, Within, threshold, answered, Done}
 use Rattle.threshold.specs.Asked.{Small}

@@ -8,12 +8,12 @@ use native.Mathlib.Nat.{le-refl, le-trans, le-of-lt, suc-mul, mul-add, mul-le-mu
 use native.Mathlib.Omega.{arith}
 use lib.ListN.{length, getD, set}
 use borrow.Author.Tests.{le-leb, lt-leb}
-use Rattle.numbers.specs.declared.Fraction.{Fraction}
-use Rattle.numbers.specs.Lists.{AtMost}
-use Rattle.numbers.specs.Sums.{sum}
-use Rattle.numbers.specs.Fractions.{fraction, Proper}
-use Rattle.numbers.proofs.Lists.{Written, written-none, written-more}
-use Rattle.numbers.proofs.Sums.{sum-none, sum-more, sum-most, sum-same, sum-part}
+use Rattle.arithmetic.specs.declared.Fraction.{Fraction}
+use Rattle.arithmetic.specs.Lists.{AtMost}
+use Rattle.arithmetic.specs.Sums.{sum}
+use Rattle.arithmetic.specs.Fractions.{fraction, Proper}
+use Rattle.arithmetic.proofs.Lists.{Written, written-none, written-more}
+use Rattle.arithmetic.proofs.Sums.{sum-none, sum-more, sum-most, sum-same, sum-part}
 use Rattle.threshold.specs.Histogram.{countOf, total}
 use Rattle.threshold.specs.TwoMeans.{highest, low, high, sumOver, levelSum, round, Within}
 use Rattle.threshold.specs.Asked.{Filled, Tables, Small}
@@ -29,8 +29,8 @@ sum-of-levels (suc n) f = omega (arith, sum-of-levels n f, suc-mul n (sum n f + 
 
 -- ---- filling
 -- the tables are right up to level v, and its two numbers are at hand
-pub record Filling (h : List ℕ) (v : ℕ) (counted summed : List ℕ) (number added : ℕ) : Type 0 where
-  pub filled : Filled h v counted summed
+pub record Filling (h : List ℕ) (v : ℕ) (below sums : List ℕ) (number added : ℕ) : Type 0 where
+  pub filled : Filled h v below sums
   pub number-is : number ≡ sum v (countOf h)
   pub added-is : added ≡ sum v (levelSum h)
 
@@ -46,55 +46,55 @@ abbrev Table : (ℕ → ℕ) → List ℕ → List ℕ → ℕ → Type 0
 Table f h table v = Written f (length h + 1) table (v + 1)
 
 -- where those of both are, the two are right up to level v
-right-up-to : {h counted summed : List ℕ} {v : ℕ} → Table (numberBelow h) h counted v → Table (sumBelow h) h summed v → Filled h v counted summed
+right-up-to : {h below sums : List ℕ} {v : ℕ} → Table (numberBelow h) h below v → Table (sumBelow h) h sums v → Filled h v below sums
 right-up-to n s =
     record {
-      counted-long = n .places;
-      summed-long = s .places;
-      counted-is = λ k b. n .are k (omega arith);
-      summed-is = λ k b. s .are k (omega arith);
+      below-long = n .places;
+      sums-long = s .places;
+      below-are = λ k b. n .are k (omega arith);
+      sums-are = λ k b. s .are k (omega arith);
     }
 
 -- and where the two are right, those of both are written
-module _ {h counted summed : List ℕ} {v : ℕ} (f : Filled h v counted summed) where
-  counted-written : Table (numberBelow h) h counted v
-  counted-written = record { places = f .counted-long; are = λ k b. f .counted-is k (omega arith) }
+module _ {h below sums : List ℕ} {v : ℕ} (f : Filled h v below sums) where
+  below-written : Table (numberBelow h) h below v
+  below-written = record { places = f .below-long; are = λ k b. f .below-are k (omega arith) }
 
-  summed-written : Table (sumBelow h) h summed v
-  summed-written = record { places = f .summed-long; are = λ k b. f .summed-is k (omega arith) }
+  sums-written : Table (sumBelow h) h sums v
+  sums-written = record { places = f .sums-long; are = λ k b. f .sums-are k (omega arith) }
 
 -- nothing lies below level 0
-pub filling-none : (h counted summed : List ℕ) → length counted ≡ length h + 1 → length summed ≡ length h + 1 → Filling h 0 (set counted 0 0) (set summed 0 0) 0 0
-filling-none h counted summed long-counted long-summed =
+pub filling-none : (h below sums : List ℕ) → length below ≡ length h + 1 → length sums ≡ length h + 1 → Filling h 0 (set below 0 0) (set sums 0 0) 0 0
+filling-none h below sums long-below long-sums =
     let number-is : 0 ≡ numberBelow h 0 = sym (sum-none (countOf h)) in
     let added-is : 0 ≡ sumBelow h 0 = sym (sum-none (levelSum h)) in
     record {
       filled =
           right-up-to
-          (written-more (numberBelow h) counted 0 0 (omega arith) number-is (written-none (numberBelow h) counted long-counted))
-          (written-more (sumBelow h) summed 0 0 (omega arith) added-is (written-none (sumBelow h) summed long-summed));
+          (written-more (numberBelow h) below 0 0 (omega arith) number-is (written-none (numberBelow h) below long-below))
+          (written-more (sumBelow h) sums 0 0 (omega arith) added-is (written-none (sumBelow h) sums long-sums));
       number-is = number-is;
       added-is = added-is;
     }
 
-module _ {h counted summed : List ℕ} {v number added : ℕ} (so-far : Filling h v counted summed number added) where
+module _ {h below sums : List ℕ} {v number added : ℕ} (so-far : Filling h v below sums number added) where
   -- one level more
   pub filling-more : v < length h → let number' = number + countOf h v in let added' = added + levelSum h v in
-      Filling h (v + 1) (set counted (v + 1) number') (set summed (v + 1) added') number' added'
+      Filling h (v + 1) (set below (v + 1) number') (set sums (v + 1) added') number' added'
   filling-more turn =
       let number-is : number + countOf h v ≡ numberBelow h (v + 1) = omega (arith, so-far .number-is, sum-more v (countOf h)) in
       let added-is : added + levelSum h v ≡ sumBelow h (v + 1) = omega (arith, so-far .added-is, sum-more v (levelSum h)) in
       record {
         filled =
             right-up-to
-            (written-more (numberBelow h) counted (v + 1) _ (omega arith) number-is (counted-written (so-far .filled)))
-            (written-more (sumBelow h) summed (v + 1) _ (omega arith) added-is (summed-written (so-far .filled)));
+            (written-more (numberBelow h) below (v + 1) _ (omega arith) number-is (below-written (so-far .filled)))
+            (written-more (sumBelow h) sums (v + 1) _ (omega arith) added-is (sums-written (so-far .filled)));
         number-is = number-is;
         added-is = added-is;
       }
 
   -- no level is left
-  pub filling-all : v ≤ length h → length h ≤ v → Tables h counted summed
+  pub filling-all : v ≤ length h → length h ≤ v → Tables h below sums
   filling-all up-to past = let e : v ≡ length h = omega arith in rw e at (so-far .filled)
 
   -- with counts of 32 bits at 2,048 levels, what is stored fits 64 bits
@@ -203,9 +203,9 @@ module _ (f : ℕ → ℕ) (h table : List ℕ) (right : (v : ℕ) → v ≤ len
       )
 
 -- past the last level the first table has the total
-pub total-read : {h counted summed : List ℕ} {n : ℕ} → length h ≡ n → Tables h counted summed → getD counted n 0 ≡ total h
+pub total-read : {h below sums : List ℕ} {n : ℕ} → length h ≡ n → Tables h below sums → getD below n 0 ≡ total h
 unfolding total
-total-read {h} levels tables = rw (← levels) (tables .counted-is (length h) (le-refl (length h)))
+total-read {h} levels tables = rw (← levels) (tables .below-are (length h) (le-refl (length h)))
 
 -- with at most 2,048 levels and a total of at most 1,048,576, what is read is small
 module _ {h : List ℕ} (small : Small h) {k : ℕ} (in-it : k ≤ length h) where
@@ -229,35 +229,35 @@ pub record Read (h : List ℕ) (T : Fraction) (a b c e : ℕ) : Type 0 where
 
 -- as they are read from the tables
 abbrev pub ReadFrom : List ℕ → List ℕ → List ℕ → Fraction → ℕ → Type 0
-ReadFrom h counted summed T from =
+ReadFrom h below sums T from =
     Read h T
-    (getD summed (whole T + 1) 0)
-    (getD counted (whole T + 1) 0)
-    (getD summed (length h) 0 - getD summed from 0)
-    (getD counted (length h) 0 - getD counted from 0)
+    (getD sums (whole T + 1) 0)
+    (getD below (whole T + 1) 0)
+    (getD sums (length h) 0 - getD sums from 0)
+    (getD below (length h) 0 - getD below from 0)
 
-module _ {h counted summed : List ℕ} (tables : Tables h counted summed) {T : Fraction} {from : ℕ} (at : Places h T from) where
+module _ {h below sums : List ℕ} (tables : Tables h below sums) {T : Fraction} {from : ℕ} (at : Places h T from) where
   -- nothing is taken from less
-  pub summed-in : getD summed from 0 ≤ getD summed (length h) 0
-  summed-in = omega (arith, high-read (levelSum h) h summed (tables .summed-is) at)
+  pub sums-in : getD sums from 0 ≤ getD sums (length h) 0
+  sums-in = omega (arith, high-read (levelSum h) h sums (tables .sums-are) at)
 
-  pub counted-in : getD counted from 0 ≤ getD counted (length h) 0
-  counted-in = omega (arith, high-read (countOf h) h counted (tables .counted-is) at)
+  pub below-in : getD below from 0 ≤ getD below (length h) 0
+  below-in = omega (arith, high-read (countOf h) h below (tables .below-are) at)
 
-  pub read : Small h → ReadFrom h counted summed T from
+  pub read : Small h → ReadFrom h below sums T from
   read small =
       let n = length h in
       let u = whole T + 1 in
       let all : n ≤ n = le-refl n in
-      let a-small : getD summed u 0 ≤ 2147483648 = omega (arith, tables .summed-is u (at .up-to-in), sum-small small (at .up-to-in)) in
-      let b-small : getD counted u 0 ≤ 1048576 = omega (arith, tables .counted-is u (at .up-to-in), number-small small (at .up-to-in)) in
-      let c-small : getD summed n 0 - getD summed from 0 ≤ 2147483648 = omega (arith, tables .summed-is n all, sum-small small all) in
-      let e-small : getD counted n 0 - getD counted from 0 ≤ 1048576 = omega (arith, tables .counted-is n all, number-small small all) in
+      let a-small : getD sums u 0 ≤ 2147483648 = omega (arith, tables .sums-are u (at .up-to-in), sum-small small (at .up-to-in)) in
+      let b-small : getD below u 0 ≤ 1048576 = omega (arith, tables .below-are u (at .up-to-in), number-small small (at .up-to-in)) in
+      let c-small : getD sums n 0 - getD sums from 0 ≤ 2147483648 = omega (arith, tables .sums-are n all, sum-small small all) in
+      let e-small : getD below n 0 - getD below from 0 ≤ 1048576 = omega (arith, tables .below-are n all, number-small small all) in
       record {
-        a-is = low-read (levelSum h) h summed (tables .summed-is) at;
-        b-is = low-read (countOf h) h counted (tables .counted-is) at;
-        c-is = omega (arith, high-read (levelSum h) h summed (tables .summed-is) at);
-        e-is = omega (arith, high-read (countOf h) h counted (tables .counted-is) at);
+        a-is = low-read (levelSum h) h sums (tables .sums-are) at;
+        b-is = low-read (countOf h) h below (tables .below-are) at;
+        c-is = omega (arith, high-read (levelSum h) h sums (tables .sums-are) at);
+        e-is = omega (arith, high-read (countOf h) h below (tables .below-are) at);
         b-small = b-small;
         ae-small = mul-le-mul a-small e-small;
         cb-small = mul-le-mul c-small b-small;

@@ -5,9 +5,9 @@ use mathlib.Core.List.{List}
 use Prim.Native.Nat.{ℕ, _/_, _<_, _≤_}
 use lib.Dec.{eqb}
 use lib.ListN.{length, getD}
-use Rattle.numbers.specs.Refusals.{Unless}
-use Rattle.numbers.specs.Lists.{AtMost}
-use Rattle.numbers.specs.Sums.{sum}
+use Rattle.answers.specs.Refusals.{Unless}
+use Rattle.arithmetic.specs.Lists.{AtMost}
+use Rattle.arithmetic.specs.Sums.{sum}
 
 -- "each filtered value adds one at its eighths divided by 8, rounded down": what the values add at level v
 unfoldable pub addedAt : List ℕ → ℕ → ℕ
@@ -24,8 +24,8 @@ total h = sum (length h) (countOf h)
 -- "It takes 1 to 1,048,576 values, each at most 2,040."
 pub record Countable (values : List ℕ) : Type 0 where
   pub some : 1 ≤ length values
-  pub few : length values ≤ 1048576
-  pub small : AtMost 2040 values
+  pub few : length values ≤ 1_048_576
+  pub small : AtMost 2_040 values
 
 -- what counting answers and leaves: the number, and the lent histogram
 pub record Tally : Type 0 where

@@ -1,6 +1,6 @@
 -- Document 01, "Two means", its second paragraph, and the numbers 10 to 12 of its table: the threshold that rests; and demand 3, whose
 -- words stand in docs/DECISIONS.md. A histogram h is a list of counts of any length, from that of level 0 on; a threshold is a
--- fraction, compared by cross products (numbers/specs/Fractions.antt).
+-- fraction, compared by cross products (arithmetic/specs/Fractions.antt).
 use mathlib.Core.Path.{_≡_}
 use mathlib.Core.Bool.{Bool, cond}
 use mathlib.Core.List.{List, [], _∷_}
@@ -8,11 +8,11 @@ use mathlib.Core.Logic.{_⊎_}
 use Prim.Native.Nat.{ℕ, zero, suc, _+_, _-_, _*_, _<_, _≤_}
 use lib.Dec.{leb, ltb, eqb}
 use lib.ListN.{length}
-use Rattle.numbers.specs.declared.Fraction.{Fraction}
-use Rattle.numbers.specs.Refusals.{Unless}
-use Rattle.numbers.specs.Greatest.{Least}
-use Rattle.numbers.specs.Sums.{sum}
-use Rattle.numbers.specs.Fractions.{fraction, Proper, Equal, NotMore}
+use Rattle.arithmetic.specs.declared.Fraction.{Fraction}
+use Rattle.answers.specs.Refusals.{Unless}
+use Rattle.arithmetic.specs.Greatest.{Least}
+use Rattle.arithmetic.specs.Sums.{sum}
+use Rattle.arithmetic.specs.Fractions.{fraction, Proper, Equal, NotMore}
 use Rattle.threshold.specs.declared.Threshold.{Threshold}
 use Rattle.threshold.specs.Histogram.{countOf, total}
 
@@ -116,5 +116,5 @@ abbrev pub TwoMeansIs : List ℕ → Threshold → Type 0
 TwoMeansIs h r =
     Unless (length h ≡ 256) (r ≡ refused 10)
     (Unless (¬ (total h ≡ 0)) (r ≡ refused 11)
-    (Unless (total h ≤ 1048576) (r ≡ refused 12)
+    (Unless (total h ≤ 1_048_576) (r ≡ refused 12)
     (Done 128 h r)))

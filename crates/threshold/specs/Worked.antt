@@ -4,7 +4,7 @@ use mathlib.Core.Path.{_≡_}
 use mathlib.Core.List.{List, [], _∷_}
 use Prim.Native.Nat.{ℕ}
 use lib.ListN.{replicate, set}
-use Rattle.numbers.specs.declared.Fraction.{Fraction}
+use Rattle.arithmetic.specs.declared.Fraction.{Fraction}
 use Rattle.threshold.specs.TwoMeans.{round, Rests}
 
 -- a histogram of 256 counts, from pairs of a level and how often it was counted

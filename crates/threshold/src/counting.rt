@@ -3,10 +3,10 @@
 ghost use mathlib.Core.Path.{_≡_};
 ghost use mathlib.Core.Bool.{true, false};
 ghost use lib.ListN.{length};
-ghost use Rattle.numbers.specs.Refusals.{Unless};
+ghost use Rattle.answers.specs.Refusals.{Unless};
 ghost use Rattle.threshold.specs.Histogram.{Countable};
 ghost use Rattle.threshold.specs.Asked.{Added};
-use numbers::values;
+use arithmetic::values;
 
 // Whether values can be counted. A test of its own, before the first is counted, is quicker than
 // one at each value: its loop takes several at once.
@@ -16,16 +16,16 @@ pub(crate) fn countable(values: &[u16]) -> bool
     if values.len() < 1 {
         return false;
     }
-    if 1048576 < values.len() {
+    if 1_048_576 < values.len() {
         return false;
     }
-    values::at_most(values, 2040)
+    values::at_most(values, 2_040)
 }
 
 // The counts of values: an array that starts with a zero in each place, to which each value adds one.
 // An array by value and one loop is the form that document 01 names; the lent histogram is filled
 // from it afterwards.
-pub(crate) fn counted(values: &[u16]) -> [u32; 256]
+pub(crate) fn counts_of(values: &[u16]) -> [u32; 256]
     requires { ⌜ Countable (now values) ⌝ }
     ensures { λ r. ⌜ Added (now (values .entry)) (length (now (values .entry))) r ⌝ }
 {

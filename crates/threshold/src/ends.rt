@@ -5,20 +5,20 @@ ghost use Prim.Native.Nat.{_<_};
 ghost use Rattle.threshold.specs.Histogram.{total};
 ghost use Rattle.threshold.specs.TwoMeans.{level, lowest as lowestOf, highest as highestOf, start as startOf};
 
-// The start: `middle`, or the nearest end of the levels present.
-pub(crate) fn start(histogram: &[u32], middle: usize) -> usize
+// The start: the usual one, or the nearest end of the levels present.
+pub(crate) fn start(histogram: &[u32], usual: usize) -> usize
     requires { ⌜ 0 < total (now histogram) ⌝ }
-    ensures { λ r. ⌜ level r ≡ startOf middle (now (histogram .entry)) ⌝ }
+    ensures { λ r. ⌜ level r ≡ startOf usual (now (histogram .entry)) ⌝ }
 {
     let low = lowest(histogram);
     let high = highest(histogram);
-    if middle < low {
+    if usual < low {
         return low;
     }
-    if high < middle {
+    if high < usual {
         return high;
     }
-    middle
+    usual
 }
 
 // Nothing stops the search at the histogram's end: its total is not 0, so some level is counted.

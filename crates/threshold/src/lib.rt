@@ -4,8 +4,8 @@
 ghost use mathlib.Core.Path.{_≡_};
 ghost use Rattle.threshold.specs.Histogram.{tally, CountIs};
 ghost use Rattle.threshold.specs.TwoMeans.{TwoMeansIs, refused};
-use numbers::Fraction;
-use numbers::table;
+use answers::table;
+use arithmetic::Fraction;
 
 mod counting;
 mod ends;
@@ -32,7 +32,7 @@ pub fn count(values: &[u16], histogram: &mut [u32]) -> u8
     if !counting::countable(values) {
         return table::INPUT_OUT_OF_RANGE;
     }
-    let counts = counting::counted(values);
+    let counts = counting::counts_of(values);
     counting::put(counts, histogram);
     table::DONE
 }
@@ -47,17 +47,17 @@ pub fn two_means(histogram: &[u32]) -> Threshold
     if histogram.len() != 256 {
         return refuse(table::WRONG_HISTOGRAM);
     }
-    let mut counted = [0u64; 257];
-    let mut summed = [0u64; 257];
-    means::fill(histogram, &mut counted, &mut summed);
-    let total = counted[256];
+    let mut below = [0u64; 257];
+    let mut sums = [0u64; 257];
+    means::fill(histogram, &mut below, &mut sums);
+    let total = below[256];
     if total == 0 {
         return refuse(table::EMPTY_HISTOGRAM);
     }
-    if 1048576 < total {
+    if 1_048_576 < total {
         return refuse(table::LARGE_TOTAL);
     }
-    means::settle(histogram, &counted, &summed, 128)
+    means::settle(histogram, &below, &sums, 128)
 }
 
 fn refuse(number: u8) -> Threshold

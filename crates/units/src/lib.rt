@@ -26,7 +26,7 @@ impl Sixteenths {
     pub fn amount(self) -> i64
         ensures { λ r. ⌜ r ≡ self .0 ⌝ }
     {
-        self.0 // sixteenths of a pixel
+        self.0 // the only place where sixteenths become a plain number
     }
 }
 
@@ -42,7 +42,7 @@ impl Picometres {
     pub fn amount(self) -> u64
         ensures { λ r. ⌜ r ≡ self .0 ⌝ }
     {
-        self.0 // picometres
+        self.0 // the only place where picometres become a plain number
     }
 }
 
@@ -58,6 +58,6 @@ impl Eighths {
     pub fn amount(self) -> u64
         ensures { λ r. ⌜ r ≡ self .0 ⌝ }
     {
-        self.0 // eighths of a level
+        self.0 // the only place where eighths become a plain number
     }
 }

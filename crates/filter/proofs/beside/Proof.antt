@@ -2,7 +2,7 @@
 use mathlib.Core.Path.{refl}
 use mathlib.Core.Logic.{inl}
 use native.Mathlib.Omega.{arith}
-use Rattle.numbers.proofs.Refusals.{goes-on}
+use Rattle.answers.proofs.Refusals.{goes-on}
 use Rattle.filter.proofs.RowOutcomes.{beside-is}
 use Rattle.filter.proofs.beside.Statement.{statement}
 use Rattle.filter.proofs.beside.Tie as tie

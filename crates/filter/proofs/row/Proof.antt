@@ -6,7 +6,7 @@ use borrow.Author.Needs.{needs}
 use denote.Ref.{now}
 use lib.ListN.{length}
 use lib.Seq.{length-take-le}
-use Rattle.numbers.proofs.Refusals.{stops, goes-on, told-no, told-yes}
+use Rattle.answers.proofs.Refusals.{stops, goes-on, told-no, told-yes}
 use Rattle.filter.specs.Row.{Beside}
 use Rattle.filter.proofs.RowOutcomes.{RowFits, row-done}
 use Rattle.filter.proofs.row.Statement.{statement}

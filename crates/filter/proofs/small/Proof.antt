@@ -2,7 +2,7 @@
 use mathlib.Core.Path.{refl}
 use borrow.Author.Needs.{needs}
 use denote.Ref.{now}
-use Rattle.numbers.proofs.Refusals.{stops, told-no, told-yes}
+use Rattle.answers.proofs.Refusals.{stops, told-no, told-yes}
 use Rattle.filter.proofs.RowOutcomes.{small-is}
 use Rattle.filter.proofs.small.Statement.{statement}
 use Rattle.filter.proofs.small.Tie as tie

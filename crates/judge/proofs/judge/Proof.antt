@@ -3,8 +3,8 @@ use mathlib.Core.Path.{_≡_, refl}
 use Prim.Native.Nat.{_-_, _≤_}
 use native.Mathlib.Omega.{arith}
 use borrow.Author.Needs.{needs}
-use Rattle.numbers.specs.Refusals.{Unless}
-use Rattle.numbers.proofs.Refusals.{stops, goes-on}
+use Rattle.answers.specs.Refusals.{Unless}
+use Rattle.answers.proofs.Refusals.{stops, goes-on}
 use Rattle.judge.specs.declared.Verdict.{Verdict}
 use Rattle.judge.specs.Judge.{RatioIs, JudgeIs}
 use Rattle.judge.proofs.Judging.{Past, stopped, passed, decided}

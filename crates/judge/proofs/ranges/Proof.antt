@@ -1,7 +1,7 @@
 -- `judge::ranges` meets its contract: each test is one end of a range, in the order of the definition. Assumes nothing.
 use mathlib.Core.Path.{refl}
 use native.Mathlib.Omega.{arith}
-use Rattle.numbers.proofs.Refusals.{stops, goes-on}
+use Rattle.answers.proofs.Refusals.{stops, goes-on}
 use Rattle.units.specs.Units.{eighths}
 use Rattle.judge.specs.Judge.{InRange}
 use Rattle.judge.proofs.ranges.Statement.{statement}

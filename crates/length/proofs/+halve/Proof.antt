@@ -5,7 +5,7 @@ use native.Mathlib.Omega.{arith}
 use native.Mathlib.Nat.{mul-le-mul, not-le-of-lt}
 use borrow.Fn.Kinds.{In}
 use borrow.Fn.PlainCycle.{Measures, is, falls, and}
-use Rattle.numbers.proofs.Greatest.{not-empty, upper-half, lower-half, narrowed}
+use Rattle.arithmetic.proofs.Greatest.{not-empty, upper-half, lower-half, narrowed}
 use Rattle.length.proofs.Laws.{falling}
 use Rattle.length.proofs.halve.Reads as halve
 use Rattle.length.proofs.halve.Kinds as halve-kinds

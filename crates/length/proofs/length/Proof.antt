@@ -5,8 +5,8 @@ use native.Mathlib.Omega.{arith}
 use mir.Syntax.{w64}
 use mir.ValLaws.{toZ-ofZ}
 use borrow.Author.Needs.{needs}
-use Rattle.numbers.specs.Signed.{natOf}
-use Rattle.numbers.proofs.Refusals.{stops}
+use Rattle.arithmetic.specs.Signed.{natOf}
+use Rattle.answers.proofs.Refusals.{stops}
 use Rattle.length.specs.Length.{InRange}
 use Rattle.length.proofs.Laws.{Ranged, to-natural, product, squared, start, is-the-length}
 use Rattle.length.proofs.length.Statement.{statement}

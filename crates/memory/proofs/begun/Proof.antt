@@ -3,7 +3,7 @@ use mathlib.Core.Path.{refl}
 use native.Mathlib.Omega.{arith}
 use borrow.Author.Needs.{needs}
 use denote.Ref.{now}
-use Rattle.numbers.proofs.Refusals.{stops}
+use Rattle.answers.proofs.Refusals.{stops}
 use Rattle.memory.proofs.Memories.{length-rows, begun-told}
 use Rattle.memory.proofs.begun.Statement.{statement}
 use Rattle.memory.proofs.begun.Tie as tie
@@ -12,16 +12,16 @@ returns : tie.Need-returns
 returns c = stops (λ b. omega (arith, b .long)) refl
 
 returns-2 : tie.Need-returns-2
-returns-2 c = stops (λ b. omega (arith, b .wide)) refl
+returns-2 c = stops (λ b. omega (arith, b .width)) refl
 
 returns-3 : tie.Need-returns-3
-returns-3 c = stops (λ b. omega (arith, b .wide)) refl
+returns-3 c = stops (λ b. omega (arith, b .width)) refl
 
 returns-4 : tie.Need-returns-4
-returns-4 c = stops (λ b. omega (arith, b .high)) refl
+returns-4 c = stops (λ b. omega (arith, b .height)) refl
 
 returns-5 : tie.Need-returns-5
-returns-5 c = stops (λ b. omega (arith, b .high)) refl
+returns-5 c = stops (λ b. omega (arith, b .height)) refl
 
 -- past all tests of the length and the sides
 abbrev start : tie.Else5 → tie.Start
@@ -35,17 +35,17 @@ returns-6 c =
     let held = now (start (c .before .before) .args .held) in
     begun-told held _ (omega arith) (omega arith, omega arith) (omega arith, omega arith) (c .in-range .ensures)
 
-shared-slice-read-w : tie.Need-shared-slice-read-w
-shared-slice-read-w c = search needs
+shared-slice-read-width : tie.Need-shared-slice-read-width
+shared-slice-read-width c = search needs
 
-cast-w : tie.Need-cast-w
-cast-w c = omega (arith, c .shared-slice-known2 .given 0)
+cast-width : tie.Need-cast-width
+cast-width c = omega (arith, c .shared-slice-known2 .given 0)
 
-shared-slice-read-h : tie.Need-shared-slice-read-h
-shared-slice-read-h c = search needs
+shared-slice-read-height : tie.Need-shared-slice-read-height
+shared-slice-read-height c = search needs
 
-cast-h : tie.Need-cast-h
-cast-h c = omega (arith, c .shared-slice-known3 .given 1)
+cast-height : tie.Need-cast-height
+cast-height c = omega (arith, c .shared-slice-known3 .given 1)
 
 sub-in-range : tie.Need-sub-in-range
 sub-in-range c = search needs
@@ -61,10 +61,10 @@ begun-spec =
     tie.close
     (tie.spec
     returns
-    shared-slice-read-w
-    cast-w
-    shared-slice-read-h
-    cast-h
+    shared-slice-read-width
+    cast-width
+    shared-slice-read-height
+    cast-height
     returns-2
     returns-3
     returns-4

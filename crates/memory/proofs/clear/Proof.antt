@@ -4,7 +4,7 @@ use Prim.Native.Nat.{_-_, _≤_}
 use native.Mathlib.Omega.{arith}
 use borrow.Author.Needs.{needs}
 use lib.ListN.{length, getD, length-set}
-use Rattle.numbers.proofs.Lists.{Written, written-none, written-more, written-all}
+use Rattle.arithmetic.proofs.Lists.{Written, written-none, written-more, written-all}
 use Rattle.memory.specs.Memory.{zeros}
 use Rattle.memory.proofs.Memories.{length-zeros, zero-at}
 use Rattle.memory.proofs.clear.Statement.{statement}

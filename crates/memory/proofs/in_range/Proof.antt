@@ -6,7 +6,7 @@ use native.Mathlib.Omega.{arith}
 use borrow.Author.Needs.{needs}
 use denote.Ref.{now}
 use lib.Seq.{length-take-le}
-use Rattle.numbers.proofs.Refusals.{stops, told-no, told-yes}
+use Rattle.answers.proofs.Refusals.{stops, told-no, told-yes}
 use Rattle.memory.proofs.Memories.{no-levels, no-halves, ranges-told}
 use Rattle.memory.proofs.in_range.Statement.{statement}
 use Rattle.memory.proofs.in_range.Tie as tie
@@ -14,7 +14,7 @@ use Rattle.memory.proofs.in_range.Tie as tie
 -- where the levels are told
 module _ (levels : tie.After-at-most) where
   abbrev w : ℕ
-  w = levels .before .before .before .args .w
+  w = levels .before .before .before .args .width
 
   abbrev rows : List ℕ
   rows = now (levels .before .before .before .args .rows)

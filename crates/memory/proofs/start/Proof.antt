@@ -2,7 +2,7 @@
 use mathlib.Core.Path.{refl}
 use native.Mathlib.Omega.{arith}
 use borrow.Author.Needs.{needs}
-use Rattle.numbers.proofs.Refusals.{stops, goes-on}
+use Rattle.answers.proofs.Refusals.{stops, goes-on}
 use Rattle.memory.proofs.start.Statement.{statement}
 use Rattle.memory.proofs.start.Tie as tie
 

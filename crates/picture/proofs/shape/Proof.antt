@@ -1,7 +1,7 @@
 -- `picture::shape` meets its contract: each test is one number's condition, in the order of the table. Assumes nothing.
 use mathlib.Core.Path.{refl}
 use native.Mathlib.Omega.{arith}
-use Rattle.numbers.proofs.Refusals.{stops, goes-on}
+use Rattle.answers.proofs.Refusals.{stops, goes-on}
 use Rattle.picture.specs.Picture.{Side}
 use Rattle.picture.proofs.Shapes.{pixels}
 use Rattle.picture.proofs.shape.Statement.{statement}

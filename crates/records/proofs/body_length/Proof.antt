@@ -1,7 +1,7 @@
 -- `records::body_length` meets its contract: each arm is one kind. Assumes nothing.
 use mathlib.Core.Path.{refl}
 use mathlib.Core.Logic.{inl, inr}
-use Rattle.numbers.proofs.Refusals.{stops, goes-on}
+use Rattle.answers.proofs.Refusals.{stops, goes-on}
 use Rattle.records.proofs.Bodies.{unknown}
 use Rattle.records.proofs.body_length.Statement.{statement}
 use Rattle.records.proofs.body_length.Tie as tie

@@ -3,7 +3,7 @@ use mathlib.Core.Path.{ap, _∙_}
 use borrow.Author.Needs.{needs}
 use denote.Ref.{now}
 use Rattle.units.specs.Units.{picometres}
-use Rattle.numbers.proofs.LittleEndian.{of-pairs}
+use Rattle.arithmetic.proofs.LittleEndian.{of-pairs}
 use Rattle.records.proofs.pixel_size.Statement.{statement}
 use Rattle.records.proofs.pixel_size.Tie as tie
 

@@ -5,9 +5,9 @@ use native.Mathlib.Omega.{arith}
 use borrow.Author.Needs.{needs}
 use denote.Ref.{now}
 use lib.ListN.{length}
-use Rattle.numbers.specs.Refusals.{Unless}
-use Rattle.numbers.proofs.Refusals.{stops, goes-on}
-use Rattle.numbers.specs.Bytes.{byte}
+use Rattle.answers.specs.Refusals.{Unless}
+use Rattle.answers.proofs.Refusals.{stops, goes-on}
+use Rattle.arithmetic.specs.Bytes.{byte}
 use Rattle.records.specs.Records.{Known, bodyLength, byKind}
 use Rattle.records.proofs.Bodies.{told-unknown, told-known}
 use Rattle.records.proofs.record_at.Statement.{statement}

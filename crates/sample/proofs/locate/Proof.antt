@@ -4,7 +4,7 @@ use Prim.Native.Nat.{ℕ, _/_, _%_}
 use mir.Syntax.{w64}
 use mir.ValLaws.{toZ-ofZ}
 use borrow.Author.Needs.{needs}
-use Rattle.numbers.specs.Signed.{natOf}
+use Rattle.arithmetic.specs.Signed.{natOf}
 use Rattle.sample.proofs.locate.Statement.{statement}
 use Rattle.sample.proofs.locate.Tie as tie
 

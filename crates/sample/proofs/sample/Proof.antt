@@ -6,7 +6,7 @@ use denote.Ref.{now}
 use lib.ListN.{length}
 use mir.Syntax.{w64}
 use mir.ValLaws.{toZ-ofZ}
-use Rattle.numbers.proofs.Refusals.{stops, goes-on, told-no, told-yes}
+use Rattle.answers.proofs.Refusals.{stops, goes-on, told-no, told-yes}
 use Rattle.picture.proofs.Shapes.{WellShaped, passes-both, well-shaped, misshapen, pixels}
 use Rattle.sample.specs.declared.Coordinate.{Coordinate}
 use Rattle.sample.specs.Cubic.{sampled, refused}

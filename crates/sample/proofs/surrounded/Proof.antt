@@ -2,7 +2,7 @@
 -- the other end. Assumes nothing.
 use mathlib.Core.Path.{refl}
 use native.Mathlib.Omega.{arith}
-use Rattle.numbers.proofs.Refusals.{stops}
+use Rattle.answers.proofs.Refusals.{stops}
 use Rattle.sample.proofs.Coordinates.{tested}
 use Rattle.sample.proofs.surrounded.Statement.{statement}
 use Rattle.sample.proofs.surrounded.Tie as tie

@@ -9,7 +9,7 @@ use borrow.Author.Needs.{needs}
 use borrow.Rule.Slice.PartMut.{same-len-mid}
 use denote.Ref.{now}
 use lib.ListN.{length, take, drop, set, length-set}
-use Rattle.numbers.proofs.Refusals.{stops, goes-on, told-no, told-yes}
+use Rattle.answers.proofs.Refusals.{stops, goes-on, told-no, told-yes}
 use Rattle.memory.specs.Memory.{widthOf, heightOf, cameOf, memory, zeros, Begun}
 use Rattle.memory.proofs.Memories.{length-rows}
 use Rattle.memory.proofs.Outcomes.{when-starts}
@@ -50,8 +50,8 @@ module _ (known : tie.After-less) where
 
   due-few : (heightOf (held begun₃) - known .less .result) * widthOf (held begun₃) ≤ 1048576
   due-few =
-      let few : heightOf (held begun₃) - known .less .result ≤ 1024 = omega (arith, is-begun begun₃ .high .1) in
-      mul-le-mul few (is-begun begun₃ .wide .1)
+      let few : heightOf (held begun₃) - known .less .result ≤ 1024 = omega (arith, is-begun begun₃ .height .1) in
+      mul-le-mul few (is-begun begun₃ .width .1)
 
 -- ---- past the last
 module _ (passed : tie.Else3) where
@@ -113,7 +113,7 @@ module _ (anew : tie.After-start) where
   anew-is : anew .start .last .0 ≡ memory (widthOf (held begun₅)) (heightOf (held begun₅)) 0 (zeros 6144) (drop 6147 lent)
   anew-is =
       let is = is-begun begun₅ in
-      when-starts lent (widthOf (held begun₅)) (heightOf (held begun₅)) _ _ (omega (arith, lent-long, is .long)) (is .wide) (is .high)
+      when-starts lent (widthOf (held begun₅)) (heightOf (held begun₅)) _ _ (omega (arith, lent-long, is .long)) (is .width) (is .height)
       (anew .start .ensures)
 
   anew-long : length (anew .start .last .0) ≡ length (held begun₅)
@@ -136,10 +136,10 @@ start-requires : tie.Need-start-requires
 start-requires c κs = search needs
 
 add-held : tie.Need-add-held
-add-held c = omega (arith, is-begun (begun₅ (c .before .before)) .high .1)
+add-held c = omega (arith, is-begun (begun₅ (c .before .before)) .height .1)
 
 cast-held : tie.Need-cast-held
-cast-held c = omega (arith, is-begun (begun₅ (c .before .before)) .high .1)
+cast-held c = omega (arith, is-begun (begun₅ (c .before .before)) .height .1)
 
 slice-write-held : tie.Need-slice-write-held
 slice-write-held c = let anew = c .before .before in omega (arith, anew-long anew, is-begun (begun₅ anew) .long)
@@ -156,23 +156,23 @@ refuse-requires c κs = search needs
 same-length : tie.Need-same-length
 same-length c = search needs
 
-slice-read-w : tie.Need-slice-read-w
-slice-read-w c = omega (arith, is-begun (c .before) .long)
+slice-read-width : tie.Need-slice-read-width
+slice-read-width c = omega (arith, is-begun (c .before) .long)
 
-cast-w : tie.Need-cast-w
-cast-w c = omega (arith, c .slice-known3 .given 0)
+cast-width : tie.Need-cast-width
+cast-width c = omega (arith, c .slice-known3 .given 0)
 
-slice-read-h : tie.Need-slice-read-h
-slice-read-h c = omega (arith, is-begun (c .before .before) .long)
+slice-read-height : tie.Need-slice-read-height
+slice-read-height c = omega (arith, is-begun (c .before .before) .long)
 
-cast-h : tie.Need-cast-h
-cast-h c = omega (arith, c .slice-known4 .given 1)
+cast-height : tie.Need-cast-height
+cast-height c = omega (arith, c .slice-known4 .given 1)
 
-slice-read-k : tie.Need-slice-read-k
-slice-read-k c = omega (arith, is-begun (c .before .before .before) .long)
+slice-read-came : tie.Need-slice-read-came
+slice-read-came c = omega (arith, is-begun (c .before .before .before) .long)
 
-cast-k : tie.Need-cast-k
-cast-k c = omega (arith, c .slice-known5 .given 2)
+cast-came : tie.Need-cast-came
+cast-came c = omega (arith, c .slice-known5 .given 2)
 
 refuse-requires-2 : tie.Need-refuse-requires-2
 refuse-requires-2 c κs = search needs
@@ -221,12 +221,12 @@ end-spec =
     refuse-requires
     same-length
     returns
-    slice-read-w
-    cast-w
-    slice-read-h
-    cast-h
-    slice-read-k
-    cast-k
+    slice-read-width
+    cast-width
+    slice-read-height
+    cast-height
+    slice-read-came
+    cast-came
     refuse-requires-2
     same-length-2
     returns-2

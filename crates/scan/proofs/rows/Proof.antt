@@ -9,8 +9,8 @@ use borrow.Author.Needs.{needs}
 use borrow.Rule.Slice.PartMut.{same-len-mid}
 use denote.Ref.{now}
 use lib.ListN.{length, length-set}
-use Rattle.numbers.specs.Lists.{AtMost}
-use Rattle.numbers.proofs.Refusals.{stops, goes-on, told-no, told-yes}
+use Rattle.arithmetic.specs.Lists.{AtMost}
+use Rattle.answers.proofs.Refusals.{stops, goes-on, told-no, told-yes}
 use Rattle.memory.specs.Memory.{widthOf, heightOf, cameOf, Begun}
 use Rattle.scan.specs.Scan.{due}
 use Rattle.scan.proofs.Calls.{refused-is, less-of, is-ready, is-coming, rows-done}
@@ -62,10 +62,10 @@ module _ (within : tie.Else3) where
 
   few-rows : (cameOf (held begun₃) + n begun₃ ≤ 65535) × (n begun₃ ≤ 1024)
   few-rows =
-      let high = is-begun begun₃ .high .1 in
+      let height = is-begun begun₃ .height .1 in
       let came = few (whole .before) in
       let here = is-within in
-      (omega (arith, high, came, here), omega (arith, high, here))
+      (omega (arith, height, came, here), omega (arith, height, here))
 
 -- ---- where the rows due are known
 module _ (known : tie.After-less3) where
@@ -81,7 +81,7 @@ module _ (known : tie.After-less3) where
   due-few : (known .before .less2 .result - known .less3 .result) * widthOf (held begun₄) ≤ 1048576
   due-few =
       let few-due : known .before .less2 .result - known .less3 .result ≤ 1024 = omega (arith, due-is, few-rows within₄) in
-      mul-le-mul few-due (is-begun begun₄ .wide .1)
+      mul-le-mul few-due (is-begun begun₄ .width .1)
 
 -- ---- past the last
 module _ (passed : tie.Else4) where
@@ -153,26 +153,26 @@ refuse-requires c κs = search needs
 same-length : tie.Need-same-length
 same-length c = search needs
 
-slice-read-w : tie.Need-slice-read-w
-slice-read-w c = omega (arith, is-begun (c .before) .long)
+slice-read-width : tie.Need-slice-read-width
+slice-read-width c = omega (arith, is-begun (c .before) .long)
 
-cast-w : tie.Need-cast-w
-cast-w c = omega (arith, c .slice-known3 .given 0)
+cast-width : tie.Need-cast-width
+cast-width c = omega (arith, c .slice-known3 .given 0)
 
-slice-read-h : tie.Need-slice-read-h
-slice-read-h c = omega (arith, is-begun (c .before .before) .long)
+slice-read-height : tie.Need-slice-read-height
+slice-read-height c = omega (arith, is-begun (c .before .before) .long)
 
-cast-h : tie.Need-cast-h
-cast-h c = omega (arith, c .slice-known4 .given 1)
+cast-height : tie.Need-cast-height
+cast-height c = omega (arith, c .slice-known4 .given 1)
 
-slice-read-k : tie.Need-slice-read-k
-slice-read-k c = omega (arith, is-begun (c .before .before .before) .long)
+slice-read-came : tie.Need-slice-read-came
+slice-read-came c = omega (arith, is-begun (c .before .before .before) .long)
 
-cast-k : tie.Need-cast-k
-cast-k c = omega (arith, c .slice-known5 .given 2)
+cast-came : tie.Need-cast-came
+cast-came c = omega (arith, c .slice-known5 .given 2)
 
 rem-if2 : tie.Need-rem-if2
-rem-if2 c = omega (arith, is-begun (begun₅ c) .wide)
+rem-if2 c = omega (arith, is-begun (begun₅ c) .width)
 
 refuse-requires-2 : tie.Need-refuse-requires-2
 refuse-requires-2 c κs = search needs
@@ -181,7 +181,7 @@ same-length-2 : tie.Need-same-length-2
 same-length-2 c = search needs
 
 div-n : tie.Need-div-n
-div-n c = omega (arith, is-begun (begun₅ (c .before)) .wide)
+div-n c = omega (arith, is-begun (begun₅ (c .before)) .width)
 
 less-requires : tie.Need-less-requires
 less-requires c κs = search needs
@@ -251,12 +251,12 @@ rows-spec =
     refuse-requires
     same-length
     returns
-    slice-read-w
-    cast-w
-    slice-read-h
-    cast-h
-    slice-read-k
-    cast-k
+    slice-read-width
+    cast-width
+    slice-read-height
+    cast-height
+    slice-read-came
+    cast-came
     rem-if2
     refuse-requires-2
     same-length-2

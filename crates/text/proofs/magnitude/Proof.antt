@@ -10,7 +10,7 @@ use mir.Val.{SFits, toZ, ofZ}
 use mir.ValLaws.{toZ-pos}
 use borrow.Author.Tests.{ltb-true}
 use borrow.Author.Needs.{needs}
-use Rattle.numbers.specs.Signed.{natOf}
+use Rattle.arithmetic.specs.Signed.{natOf}
 use Rattle.text.proofs.magnitude.Statement.{statement}
 use Rattle.text.proofs.magnitude.Tie as tie
 

@@ -6,7 +6,7 @@ use borrow.Author.Needs.{needs}
 use denote.Ref.{now}
 use lib.Dec.{lit≤}
 use lib.ListN.{length}
-use Rattle.numbers.proofs.Refusals.{stops}
+use Rattle.answers.proofs.Refusals.{stops}
 use Rattle.text.specs.Text.{Spelled}
 use Rattle.text.proofs.Putting.{place-after, after-put}
 use Rattle.text.proofs.number.Statement.{statement}

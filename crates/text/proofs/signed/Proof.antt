@@ -9,7 +9,7 @@ use lib.IntN.{ℤ}
 use lib.ListN.{length}
 use mir.Syntax.{w64}
 use mir.ValLaws.{toZ-ofZ}
-use Rattle.numbers.proofs.Refusals.{stops}
+use Rattle.answers.proofs.Refusals.{stops}
 use Rattle.text.specs.Text.{SpelledSigned, block}
 use Rattle.text.specs.Inside.{Digits}
 use Rattle.text.proofs.Putting.{place-after, after-put}

@@ -8,7 +8,7 @@ use lib.ListN.{length-set}
 use mir.Syntax.{w64}
 use mir.Val.{toZ, ofZ}
 use mir.ValLaws.{toZ-ofZ}
-use Rattle.numbers.specs.Signed.{natOf}
+use Rattle.arithmetic.specs.Signed.{natOf}
 use Rattle.text.proofs.Putting.{sign-put, no-sign-put}
 use Rattle.text.proofs.signed_digits.Statement.{statement}
 use Rattle.text.proofs.signed_digits.Tie as tie

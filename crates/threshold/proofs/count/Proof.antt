@@ -2,7 +2,7 @@
 use mathlib.Core.Path.{refl}
 use borrow.Author.Needs.{needs}
 use denote.Ref.{now}
-use Rattle.numbers.proofs.Refusals.{stops, goes-on, told-no, told-yes}
+use Rattle.answers.proofs.Refusals.{stops, goes-on, told-no, told-yes}
 use Rattle.threshold.specs.Histogram.{Countable}
 use Rattle.threshold.proofs.Histograms.{count-done}
 use Rattle.threshold.proofs.count.Statement.{statement}
@@ -21,8 +21,8 @@ returns-2 c = goes-on (c .before .before .if1 .left) (stops (told-no (c .before 
 passed : (c : tie.Else2) → Countable (now (c .before .before .before .before .before .args .values))
 passed c = told-yes (c .before .countable .ensures) (c .if2 .left)
 
-counted-requires : tie.Need-counted-requires
-counted-requires c κs = passed c
+counts-of-requires : tie.Need-counts-of-requires
+counts-of-requires c κs = passed c
 
 put-requires : tie.Need-put-requires
 put-requires c κs = search needs
@@ -38,7 +38,7 @@ returns-3 c =
     let values = now (t .before .before .before .before .before .args .values) in
     let ok = passed t in
     goes-on (t .before .before .if1 .left)
-    (goes-on ok (count-done values (d .counted .result) (p .put .last .1 .0) ok (d .counted .ensures) (p .put .ensures)))
+    (goes-on ok (count-done values (d .counts-of .result) (p .put .last .1 .0) ok (d .counts-of .ensures) (p .put .ensures)))
 
 pub count-spec : {M : Type 1} → statement M
 count-spec =
@@ -47,7 +47,7 @@ count-spec =
     returns
     countable-requires
     returns-2
-    counted-requires
+    counts-of-requires
     put-requires
     same-length
     returns-3)

@@ -7,7 +7,7 @@ use native.Mathlib.Omega.{arith}
 use lib.ListN.{length, getD}
 use borrow.Author.Needs.{needs}
 use denote.Ref.{now}
-use Rattle.numbers.proofs.Refusals.{stops, goes-on}
+use Rattle.answers.proofs.Refusals.{stops, goes-on}
 use Rattle.threshold.specs.Histogram.{total}
 use Rattle.threshold.proofs.Tables.{total-read}
 use Rattle.threshold.proofs.two_means.Statement.{statement}
@@ -32,7 +32,7 @@ array-read-total : tie.Need-array-read-total
 array-read-total c = search needs
 
 -- where the tables are filled, the last of the numbers is the total
-module _ (s : tie.After-summed2) where
+module _ (s : tie.After-sums2) where
   abbrev histogram : List ℕ
   histogram = now (s .before .before .before .before .before .before .before .args .histogram)
 

@@ -28,14 +28,14 @@ returns-2 c = search needs
 loop-holds : tie.Need-loop-holds Inv-loop μ-loop
 loop-holds c = search needs
 
-mul-wide-count : tie.Need-mul-wide-count Inv-loop μ-loop
-mul-wide-count c = omega arith
+mul-count-as-number : tie.Need-mul-count-as-number Inv-loop μ-loop
+mul-count-as-number c = omega arith
 
-shared-slice-read-wide-count : tie.Need-shared-slice-read-wide-count Inv-loop μ-loop
-shared-slice-read-wide-count c = omega arith
+shared-slice-read-count-as-number : tie.Need-shared-slice-read-count-as-number Inv-loop μ-loop
+shared-slice-read-count-as-number c = omega arith
 
-wide-count-requires : tie.Need-wide-count-requires Inv-loop μ-loop
-wide-count-requires c κs = search needs
+count-as-number-requires : tie.Need-count-as-number-requires Inv-loop μ-loop
+count-as-number-requires c κs = search needs
 
 after-requires : tie.Need-after-requires Inv-loop μ-loop
 after-requires c κs = search needs
@@ -78,9 +78,9 @@ counts-spec =
     same-length
     returns-2
     loop-holds
-    mul-wide-count
-    shared-slice-read-wide-count
-    wide-count-requires
+    mul-count-as-number
+    shared-slice-read-count-as-number
+    count-as-number-requires
     after-requires
     put-requires
     same-length-2

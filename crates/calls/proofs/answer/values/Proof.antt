@@ -28,14 +28,14 @@ returns-2 c = search needs
 loop-holds : tie.Need-loop-holds Inv-loop μ-loop
 loop-holds c = search needs
 
-mul-wide-value : tie.Need-mul-wide-value Inv-loop μ-loop
-mul-wide-value c = omega arith
+mul-value-as-number : tie.Need-mul-value-as-number Inv-loop μ-loop
+mul-value-as-number c = omega arith
 
-shared-slice-read-wide-value : tie.Need-shared-slice-read-wide-value Inv-loop μ-loop
-shared-slice-read-wide-value c = omega arith
+shared-slice-read-value-as-number : tie.Need-shared-slice-read-value-as-number Inv-loop μ-loop
+shared-slice-read-value-as-number c = omega arith
 
-wide-value-requires : tie.Need-wide-value-requires Inv-loop μ-loop
-wide-value-requires c κs = search needs
+value-as-number-requires : tie.Need-value-as-number-requires Inv-loop μ-loop
+value-as-number-requires c κs = search needs
 
 after-requires : tie.Need-after-requires Inv-loop μ-loop
 after-requires c κs = search needs
@@ -78,9 +78,9 @@ values-spec =
     same-length
     returns-2
     loop-holds
-    mul-wide-value
-    shared-slice-read-wide-value
-    wide-value-requires
+    mul-value-as-number
+    shared-slice-read-value-as-number
+    value-as-number-requires
     after-requires
     put-requires
     same-length-2

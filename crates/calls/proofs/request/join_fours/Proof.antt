@@ -4,9 +4,9 @@ use Prim.Native.Nat.{_*_, _-_, _≤_}
 use native.Mathlib.Omega.{arith}
 use borrow.Author.Needs.{needs}
 use denote.Ref.{now}
-use Rattle.numbers.specs.Bytes.{fourBytes}
-use Rattle.numbers.proofs.LittleEndian.{of-pairs}
-use Rattle.numbers.proofs.Writing.{Overwritten, overwritten-none, overwritten-front}
+use Rattle.arithmetic.specs.Bytes.{fourBytes}
+use Rattle.arithmetic.proofs.LittleEndian.{of-pairs}
+use Rattle.arithmetic.proofs.Writing.{Overwritten, overwritten-none, overwritten-front}
 use Rattle.calls.proofs.request.join_fours.Statement.{statement}
 use Rattle.calls.proofs.request.join_fours.Tie as tie
 

@@ -4,8 +4,8 @@ use Prim.Native.Nat.{_*_, _-_, _≤_}
 use native.Mathlib.Omega.{arith}
 use borrow.Author.Needs.{needs}
 use denote.Ref.{now}
-use Rattle.numbers.specs.Bytes.{twoBytes}
-use Rattle.numbers.proofs.Writing.{Overwritten, overwritten-none, overwritten-more}
+use Rattle.arithmetic.specs.Bytes.{twoBytes}
+use Rattle.arithmetic.proofs.Writing.{Overwritten, overwritten-none, overwritten-more}
 use Rattle.calls.proofs.request.join_pairs.Statement.{statement}
 use Rattle.calls.proofs.request.join_pairs.Tie as tie
 

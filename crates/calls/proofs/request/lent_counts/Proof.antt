@@ -8,8 +8,8 @@ use Rattle.calls.proofs.request.lent_counts.Tie as tie
 number-requires : tie.Need-number-requires
 number-requires c κs = search needs
 
-within-requires : tie.Need-within-requires
-within-requires c κs = search needs
+up-to-requires : tie.Need-up-to-requires
+up-to-requires c κs = search needs
 
 number-requires-2 : tie.Need-number-requires-2
 number-requires-2 c κs = search needs
@@ -18,7 +18,7 @@ cast-set-counts : tie.Need-cast-set-counts
 cast-set-counts c = search needs
 
 set-counts-requires : tie.Need-set-counts-requires
-set-counts-requires c κs = taken-room _ _ _ (c .before .before .before .within .ensures)
+set-counts-requires c κs = taken-room _ _ _ (c .before .before .before .up-to .ensures)
 
 same-length : tie.Need-same-length
 same-length c = search needs
@@ -27,13 +27,13 @@ returns : tie.Need-returns
 returns c =
     let after-set = c .before .before in
     let after-fill = after-set .before in
-    let after-within = after-fill .before .before .before in
-    let after-length = after-within .before in
+    let after-up-to = after-fill .before .before .before in
+    let after-length = after-up-to .before in
     let given = after-length .before .before .before .args in
-    lent 4294967296 (now (given .b)) (now (given .space)) _ (after-within .within .result) _ _
+    lent 4294967296 (now (given .b)) (now (given .space)) _ (after-up-to .up-to .result) _ _
     (after-length .number .ensures)
     (after-fill .number2 .ensures)
-    (after-within .within .ensures)
+    (after-up-to .up-to .ensures)
     (after-set .set-counts .ensures)
 
 pub lent-counts-spec : {M : Type 1} → statement M
@@ -41,7 +41,7 @@ lent-counts-spec =
     tie.close
     (tie.spec
     number-requires
-    within-requires
+    up-to-requires
     number-requires-2
     cast-set-counts
     set-counts-requires

@@ -20,11 +20,11 @@ returns c = omega (arith, c .nothing .ensures .1)
 number-requires : tie.Need-number-requires
 number-requires c κs = search needs
 
-within-requires : tie.Need-within-requires
-within-requires c κs = search needs
+up-to-requires : tie.Need-up-to-requires
+up-to-requires c κs = search needs
 
 returns-2 : tie.Need-returns-2
-returns-2 c = taken-room _ _ _ (c .within .ensures)
+returns-2 c = taken-room _ _ _ (c .up-to .ensures)
 
 pub size-spec : {M : Type 1} → statement M
 size-spec =
@@ -35,5 +35,5 @@ size-spec =
     nothing-requires
     returns
     number-requires
-    within-requires
+    up-to-requires
     returns-2)

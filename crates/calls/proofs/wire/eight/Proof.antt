@@ -1,7 +1,7 @@
 -- `calls::wire::eight` meets its contract: the eight places one after the other. Assumes nothing.
 use borrow.Author.Needs.{needs}
 use denote.Ref.{now}
-use Rattle.numbers.proofs.LittleEndian.{eight-places}
+use Rattle.arithmetic.proofs.LittleEndian.{eight-places}
 use Rattle.calls.proofs.wire.eight.Statement.{statement}
 use Rattle.calls.proofs.wire.eight.Tie as tie
 

@@ -4,7 +4,7 @@ use Prim.Native.Nat.{_+_, _-_, _≤_}
 use native.Mathlib.Omega.{arith}
 use denote.Ref.{now}
 use lib.ListN.{getD}
-use Rattle.numbers.proofs.Writing.{Overwritten, overwritten-none, overwritten-more}
+use Rattle.arithmetic.proofs.Writing.{Overwritten, overwritten-none, overwritten-more}
 use Rattle.filter.proofs.Blocks.{gathered}
 use Rattle.filter.proofs.block.gather.Statement.{statement}
 use Rattle.filter.proofs.block.gather.Tie as tie

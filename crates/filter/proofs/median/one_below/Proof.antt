@@ -3,7 +3,7 @@ use native.Mathlib.Omega.{arith}
 use mathlib.Core.Path.{sym}
 use mir.Syntax.{w16}
 use borrow.Author.Needs.{needs}
-use Rattle.numbers.proofs.Casts.{signed-less, signed-not-less}
+use Rattle.arithmetic.proofs.Casts.{signed-less, signed-not-less}
 use Rattle.filter.proofs.Ranks.{one-below, none-below}
 use Rattle.filter.proofs.median.one_below.Statement.{statement}
 use Rattle.filter.proofs.median.one_below.Tie as tie

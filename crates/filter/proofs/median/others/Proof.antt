@@ -6,7 +6,7 @@ use borrow.Author.Needs.{needs}
 use denote.Ref.{now}
 use lib.Seq.{getD-take}
 use Rattle.filter.proofs.Ranges.{most-fewer}
-use Rattle.filter.proofs.Search.{counted-none, counted-itself}
+use Rattle.filter.proofs.Search.{sides-none, sides-itself}
 use Rattle.filter.proofs.median.others.Statement.{statement}
 use Rattle.filter.proofs.median.others.Tie as tie
 
@@ -16,25 +16,25 @@ small start =
     let given = start .args in
     omega (arith, start .pre .3 (given .k), start .pre .4, getD-take (given .n) (now (given .t)) (given .k) 0 (start .pre .0))
 
-counted-requires : tie.Need-counted-requires
-counted-requires c κs =
+count-sides-requires : tie.Need-count-sides-requires
+count-sides-requires c κs =
     let start = c .before in
     let given = start .args in
     let levels = most-fewer 1020 (given .k) (given .n) (now (given .t)) (omega arith) (start .pre .3) in
-    ((omega arith, omega arith, omega arith, levels, small start), counted-none (now (given .t)) (given .v))
+    ((omega arith, omega arith, omega arith, levels, small start), sides-none (now (given .t)) (given .v))
 
-counted-requires-2 : tie.Need-counted-requires-2
-counted-requires-2 c κs =
+count-sides-requires-2 : tie.Need-count-sides-requires-2
+count-sides-requires-2 c κs =
     let start = c .before .before in
     let given = start .args in
-    let and-v = counted-itself (now (given .t)) (given .v) (given .k) _ _ (omega arith) (start .pre .4) (c .counted .ensures) in
+    let and-v = sides-itself (now (given .t)) (given .v) (given .k) _ _ (omega arith) (start .pre .4) (c .count-sides .ensures) in
     ((omega arith, start .pre .1, start .pre .2, start .pre .3, small start), and-v)
 
 returns : tie.Need-returns
-returns c = c .counted2 .ensures
+returns c = c .count-sides2 .ensures
 
-add-counted : tie.Need-add-counted
-add-counted c = search needs
+add-count-sides : tie.Need-add-count-sides
+add-count-sides c = search needs
 
 pub others-spec : {M : Type 1} → statement M
-others-spec = tie.close (tie.spec counted-requires add-counted counted-requires-2 returns)
+others-spec = tie.close (tie.spec count-sides-requires add-count-sides count-sides-requires-2 returns)

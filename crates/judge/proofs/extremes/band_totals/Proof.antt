@@ -8,21 +8,21 @@ use Rattle.judge.proofs.extremes.band_totals.Statement.{statement}
 use Rattle.judge.proofs.extremes.band_totals.Tie as tie
 
 abbrev Inv-loop : tie.InvT-loop
-Inv-loop x width wide high start bright₀ dark₀ at₀ a₀ bright dark at a = (a ≤ 4) × Parts width wide high start x bright dark at a
+Inv-loop filtered width columns rows start bright₀ dark₀ at₀ a₀ bright dark at a = (a ≤ 4) × Parts width columns rows start filtered bright dark at a
 
 abbrev μ-loop : tie.MeasureT-loop
-μ-loop x width wide high start bright₀ dark₀ at₀ a₀ bright dark at a = 4 - a
+μ-loop filtered width columns rows start bright₀ dark₀ at₀ a₀ bright dark at a = 4 - a
 
 loop-holds : tie.Need-loop-holds Inv-loop μ-loop
-loop-holds c = let a = c .before .args in (omega arith, parts-none (a .width) (a .wide) (a .high) (a .start) (now (a .x)))
+loop-holds c = let a = c .before .args in (omega arith, parts-none (a .width) (a .columns) (a .rows) (a .start) (now (a .filtered)))
 
 -- the part lies in the picture
-inside : (c : tie.In-loop Inv-loop μ-loop) → let a = c .before .before .before .args in Part (a .width) (a .wide) (a .high) (c .before .loop .at) (now (a .x))
+inside : (c : tie.In-loop Inv-loop μ-loop) → let a = c .before .before .before .args in Part (a .width) (a .columns) (a .rows) (c .before .loop .at) (now (a .filtered))
 inside c =
     let s = c .before .before .before in
     let a = s .args in
     let o = c .before .loop in
-    part-inside (a .width) (a .wide) (a .high) (a .start) (o .at) (o .a) (now (a .x)) (s .pre) (o .inv .1 .at-is) (c .loop-test .taken)
+    part-inside (a .width) (a .columns) (a .rows) (a .start) (o .at) (o .a) (now (a .filtered)) (s .pre) (o .inv .1 .at-is) (c .loop-test .taken)
 
 part-ends-requires : tie.Need-part-ends-requires Inv-loop μ-loop
 part-ends-requires c κs = inside c
@@ -54,7 +54,7 @@ loop-again c =
     let o = c .before .before .before .before .loop in
     let r = c .before .before .part-ends in (
       omega arith,
-      parts-more (a .width) (a .wide) (a .high) (a .start) (now (a .x)) (o .bright) (o .dark) (o .at) (o .a) (r .result .most) (r .result .least) (o .inv .1) (r .ensures)
+      parts-more (a .width) (a .columns) (a .rows) (a .start) (now (a .filtered)) (o .bright) (o .dark) (o .at) (o .a) (r .result .most) (r .result .least) (o .inv .1) (r .ensures)
           (omega (arith, c .before .struct-known .given)) (omega (arith, c .struct-known2 .given)),
     )
 
@@ -62,7 +62,7 @@ returns : tie.Need-returns Inv-loop μ-loop
 returns c =
     let a = c .before .before .before .args in
     let o = c .before .loop in
-    parts-all (a .width) (a .wide) (a .high) (a .start) (now (a .x)) (o .bright) (o .dark) (o .at) (o .a) (omega arith) (o .inv .1)
+    parts-all (a .width) (a .columns) (a .rows) (a .start) (now (a .filtered)) (o .bright) (o .dark) (o .at) (o .a) (omega arith) (o .inv .1)
 
 pub band-totals-spec : {M : Type 1} → statement M
 band-totals-spec =

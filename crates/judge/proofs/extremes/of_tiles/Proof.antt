@@ -12,10 +12,10 @@ use Rattle.judge.proofs.extremes.of_tiles.Statement.{statement}
 use Rattle.judge.proofs.extremes.of_tiles.Tie as tie
 
 abbrev Inv-loop : tie.InvT-loop
-Inv-loop x width height wide high band bright₀ dark₀ at₀ b₀ bright dark at b = (b ≤ 4) × Bands width height x bright dark at b
+Inv-loop filtered width height columns rows band bright₀ dark₀ at₀ b₀ bright dark at b = (b ≤ 4) × Bands width height filtered bright dark at b
 
 abbrev μ-loop : tie.MeasureT-loop
-μ-loop x width height wide high band bright₀ dark₀ at₀ b₀ bright dark at b = 4 - b
+μ-loop filtered width height columns rows band bright₀ dark₀ at₀ b₀ bright dark at b = 4 - b
 
 mul-band : tie.Need-mul-band Inv-loop μ-loop
 mul-band c =
@@ -25,14 +25,14 @@ mul-band c =
     omega (arith, mul-le-mul rows (sides .0 .1))
 
 loop-holds : tie.Need-loop-holds Inv-loop μ-loop
-loop-holds c = let a = c .before .args in (omega arith, bands-none (a .width) (a .height) (now (a .x)))
+loop-holds c = let a = c .before .args in (omega arith, bands-none (a .width) (a .height) (now (a .filtered)))
 
 -- the band lies in the picture
-inside : (c : tie.In-loop Inv-loop μ-loop) → let a = c .before .before .before .args in Band (a .width) (a .width / 4) (a .height / 4) (c .before .loop .at) (now (a .x))
+inside : (c : tie.In-loop Inv-loop μ-loop) → let a = c .before .before .before .args in Band (a .width) (a .width / 4) (a .height / 4) (c .before .loop .at) (now (a .filtered))
 inside c =
     let s = c .before .before .before in
     let o = c .before .loop in
-    band-inside (s .args .width) (s .args .height) (now (s .args .x)) (o .at) (o .b) (s .pre) (o .inv .1 .at-is) (c .loop-test .taken)
+    band-inside (s .args .width) (s .args .height) (now (s .args .filtered)) (o .at) (o .b) (s .pre) (o .inv .1 .at-is) (c .loop-test .taken)
 
 band-totals-requires : tie.Need-band-totals-requires Inv-loop μ-loop
 band-totals-requires c κs = inside c
@@ -57,7 +57,7 @@ loop-again c =
     let a = c .before .before .before .before .before .before .args in
     let o = c .before .before .before .before .loop in
     let r = c .before .before .band-totals in
-    (omega arith, bands-more (a .width) (a .height) (now (a .x)) (o .bright) (o .dark) (o .at) (o .b) (r .result .bright) (r .result .dark) (o .inv .1) (r .ensures .0) (r .ensures .1))
+    (omega arith, bands-more (a .width) (a .height) (now (a .filtered)) (o .bright) (o .dark) (o .at) (o .b) (r .result .bright) (r .result .dark) (o .inv .1) (r .ensures .0) (r .ensures .1))
 
 of-requires : tie.Need-of-requires Inv-loop μ-loop
 of-requires c κs = search needs
@@ -70,7 +70,7 @@ returns c =
     let d = c .before .before in
     let a = d .before .before .before .args in
     let o = d .before .loop in
-    let all = bands-all (a .width) (a .height) (now (a .x)) (o .bright) (o .dark) (o .at) (o .b) (omega arith) (o .inv .1) in
+    let all = bands-all (a .width) (a .height) (now (a .filtered)) (o .bright) (o .dark) (o .at) (o .b) (omega arith) (o .inv .1) in
     (c .before .of .ensures ∙ ap eighths (all .0), c .of2 .ensures ∙ ap eighths (all .1))
 
 pub of-tiles-spec : {M : Type 1} → statement M

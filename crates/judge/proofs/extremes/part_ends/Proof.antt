@@ -10,21 +10,21 @@ use Rattle.judge.proofs.extremes.part_ends.Statement.{statement}
 use Rattle.judge.proofs.extremes.part_ends.Tie as tie
 
 abbrev Inv-loop : tie.InvT-loop
-Inv-loop x width wide high start bright₀ dark₀ at₀ j₀ bright dark at j = (j ≤ high) × Rows width wide start x bright dark at j
+Inv-loop filtered width columns rows start most₀ least₀ at₀ j₀ most least at j = (j ≤ rows) × Rows width columns start filtered most least at j
 
 abbrev μ-loop : tie.MeasureT-loop
-μ-loop x width wide high start bright₀ dark₀ at₀ j₀ bright dark at j = high - j
+μ-loop filtered width columns rows start most₀ least₀ at₀ j₀ most least at j = rows - j
 
 loop-holds : tie.Need-loop-holds Inv-loop μ-loop
-loop-holds c = let a = c .before .args in (omega arith, rows-none (a .width) (a .wide) (a .start) (now (a .x)))
+loop-holds c = let a = c .before .args in (omega arith, rows-none (a .width) (a .columns) (a .start) (now (a .filtered)))
 
 -- the row lies in the picture, whose places 64 bits count
-inside : (c : tie.In-loop Inv-loop μ-loop) → let a = c .before .before .before .args in (c .before .loop .at + a .wide ≤ length (now (a .x))) × (length (now (a .x)) ≤ 1048576)
+inside : (c : tie.In-loop Inv-loop μ-loop) → let a = c .before .before .before .args in (c .before .loop .at + a .columns ≤ length (now (a .filtered))) × (length (now (a .filtered)) ≤ 1048576)
 inside c =
     let s = c .before .before .before in
     let a = s .args in
     let o = c .before .loop in
-    (row-inside (a .width) (a .wide) (a .high) (a .start) (o .at) (o .j) (now (a .x)) (s .pre) (o .inv .1 .at-is) (c .loop-test .taken), s .pre .long)
+    (row-inside (a .width) (a .columns) (a .rows) (a .start) (o .at) (o .j) (now (a .filtered)) (s .pre) (o .inv .1 .at-is) (c .loop-test .taken), s .pre .long)
 
 add-end : tie.Need-add-end Inv-loop μ-loop
 add-end c = omega (arith, inside c)
@@ -59,7 +59,7 @@ loop-again c =
     let o = c .before .before .before .loop in
     let r = c .row-ends in (
       omega arith,
-      rows-more (a .width) (a .wide) (a .start) (now (a .x)) (o .most) (o .least) (o .at) (o .j) (r .result .most) (r .result .least) (o .inv .1) (r .ensures .0) (r .ensures .1),
+      rows-more (a .width) (a .columns) (a .start) (now (a .filtered)) (o .most) (o .least) (o .at) (o .j) (r .result .most) (r .result .least) (o .inv .1) (r .ensures .0) (r .ensures .1),
     )
 
 returns : tie.Need-returns Inv-loop μ-loop
@@ -67,8 +67,8 @@ returns c =
     let s = c .before .before .before in
     let a = s .args in
     let o = c .before .loop in
-    let all : o .j ≡ a .high = omega arith in
-    rows-all (a .width) (a .wide) (a .start) (now (a .x)) (a .high) (o .most) (o .least) (o .at) (o .j) (s .pre) (λ k. omega (arith, c .before .before .shared-slice-known .given k)) all (o .inv .1)
+    let all : o .j ≡ a .rows = omega arith in
+    rows-all (a .width) (a .columns) (a .start) (now (a .filtered)) (a .rows) (o .most) (o .least) (o .at) (o .j) (s .pre) (λ k. omega (arith, c .before .before .shared-slice-known .given k)) all (o .inv .1)
 
 pub part-ends-spec : {M : Type 1} → statement M
 part-ends-spec =

@@ -6,8 +6,8 @@ use Rattle.judge.proofs.Ratios.{once-room, twice-room, twice-is-square}
 use Rattle.judge.proofs.ratio.reaches.Statement.{statement}
 use Rattle.judge.proofs.ratio.reaches.Tie as tie
 
-add-x : tie.Need-add-x
-add-x c = omega arith
+add-sum : tie.Need-add-sum
+add-sum c = omega arith
 
 times-requires : tie.Need-times-requires
 times-requires c κs = (omega arith, once-room (c .pre .1) (c .pre .0))
@@ -24,4 +24,4 @@ returns c =
     rw (← twice-is-square _ _ (twice .before .times .ensures) (twice .times2 .ensures)) (c .at-most .ensures)
 
 pub reaches-spec : {M : Type 1} → statement M
-reaches-spec = tie.close (tie.spec add-x times-requires times-requires-2 at-most-requires returns)
+reaches-spec = tie.close (tie.spec add-sum times-requires times-requires-2 at-most-requires returns)

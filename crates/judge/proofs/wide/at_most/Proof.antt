@@ -1,10 +1,10 @@
--- `judge::wide::at_most` meets its contract: each turn compares one place more. Assumes nothing.
+-- `judge::wide::at_most` meets its contract: each turn compares one digit more. Assumes nothing.
 use Prim.Native.Nat.{_-_, _≤_}
 use mathlib.Core.Path.{_≡_}
 use mathlib.Core.Logic.{inl, inr, ⊎-elim}
 use native.Mathlib.Omega.{arith}
 use borrow.Author.Needs.{needs}
-use Rattle.judge.proofs.Places.{Compared, compared-none, compared-more}
+use Rattle.judge.proofs.Digits.{Compared, compared-none, compared-more}
 use Rattle.judge.proofs.wide.at_most.Statement.{statement}
 use Rattle.judge.proofs.wide.at_most.Tie as tie
 
@@ -17,23 +17,23 @@ abbrev μ-loop : tie.MeasureT-loop
 loop-holds : tie.Need-loop-holds Inv-loop μ-loop
 loop-holds c = (omega arith, compared-none (c .args .t1) (c .args .t2))
 
-mul-place : tie.Need-mul-place Inv-loop μ-loop
-mul-place c = search needs
+mul-digit : tie.Need-mul-digit Inv-loop μ-loop
+mul-digit c = search needs
 
-array-read-place : tie.Need-array-read-place Inv-loop μ-loop
-array-read-place c = search needs
+array-read-digit : tie.Need-array-read-digit Inv-loop μ-loop
+array-read-digit c = search needs
 
-place-requires : tie.Need-place-requires Inv-loop μ-loop
-place-requires c κs = search needs
+digit-requires : tie.Need-digit-requires Inv-loop μ-loop
+digit-requires c κs = search needs
 
-mul-place-2 : tie.Need-mul-place-2 Inv-loop μ-loop
-mul-place-2 c = search needs
+mul-digit-2 : tie.Need-mul-digit-2 Inv-loop μ-loop
+mul-digit-2 c = search needs
 
-array-read-place-2 : tie.Need-array-read-place-2 Inv-loop μ-loop
-array-read-place-2 c = search needs
+array-read-digit-2 : tie.Need-array-read-digit-2 Inv-loop μ-loop
+array-read-digit-2 c = search needs
 
-place-requires-2 : tie.Need-place-requires-2 Inv-loop μ-loop
-place-requires-2 c κs = search needs
+digit-requires-2 : tie.Need-digit-requires-2 Inv-loop μ-loop
+digit-requires-2 c κs = search needs
 
 add-i : tie.Need-add-i Inv-loop μ-loop
 add-i c = search needs
@@ -46,8 +46,8 @@ loop-again c =
     let s = c .before .before .before .before in
     let a = s .before .args in
     let l = s .loop in
-    let x = c .before .before .place in
-    let y = c .before .place2 in (
+    let x = c .before .before .digit in
+    let y = c .before .digit2 in (
       omega arith,
       compared-more (a .t1) (a .t2) (l .answer) (l .i) (x .result) (y .result) (l .inv .1) (x .ensures .1, y .ensures .1) (x .ensures .0, y .ensures .0) (c .if1 .answer)
           (⊎-elim
@@ -69,12 +69,12 @@ at-most-spec =
     Inv-loop
     μ-loop
     loop-holds
-    mul-place
-    array-read-place
-    place-requires
-    mul-place-2
-    array-read-place-2
-    place-requires-2
+    mul-digit
+    array-read-digit
+    digit-requires
+    mul-digit-2
+    array-read-digit-2
+    digit-requires-2
     add-i
     loop-less
     loop-again

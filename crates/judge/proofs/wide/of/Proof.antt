@@ -1,7 +1,7 @@
 -- `judge::wide::of` meets its contract: a number of 64 bits is its upper half times 2^32, and its lower half. Assumes nothing.
 use native.Mathlib.Omega.{arith}
 use borrow.Author.Needs.{needs}
-use Rattle.judge.proofs.Places.{word-room}
+use Rattle.judge.proofs.Digits.{word-room}
 use Rattle.judge.proofs.wide.of.Statement.{statement}
 use Rattle.judge.proofs.wide.of.Tie as tie
 

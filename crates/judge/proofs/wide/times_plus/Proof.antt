@@ -1,10 +1,10 @@
--- `judge::wide::times_plus` meets its contract: each turn multiplies one place more, and past the last nothing is carried.
+-- `judge::wide::times_plus` meets its contract: each turn multiplies one digit more, and past the last nothing is carried.
 -- Assumes nothing.
 use Prim.Native.Nat.{_+_, _-_, _*_, _≤_}
 use mathlib.Core.Path.{_≡_, refl}
 use native.Mathlib.Omega.{arith}
 use borrow.Author.Needs.{needs}
-use Rattle.judge.proofs.Places.{Multiplied, multiplied-none, multiplied-more, multiplied-all, with-carry}
+use Rattle.judge.proofs.Digits.{Multiplied, multiplied-none, multiplied-more, multiplied-all, with-carry}
 use Rattle.judge.proofs.wide.times_plus.Statement.{statement}
 use Rattle.judge.proofs.wide.times_plus.Tie as tie
 
@@ -20,19 +20,19 @@ loop-holds c =
     (omega arith, multiplied-none (a .t1) (a .k) (a .c) _ refl (c .pre .1))
 
 -- what a turn computes has room
-room : (c : tie.After-place Inv-loop μ-loop) → let s = c .before .before in c .place .result * s .before .args .k + s .loop .carry ≤ 65536 * s .before .args .k
+room : (c : tie.After-digit Inv-loop μ-loop) → let s = c .before .before in c .digit .result * s .before .args .k + s .loop .carry ≤ 65536 * s .before .args .k
 room c =
     let s = c .before .before in
-    with-carry (c .place .result) (s .before .args .k) (s .loop .carry) (c .place .ensures .1) (s .loop .inv .1 .small)
+    with-carry (c .digit .result) (s .before .args .k) (s .loop .carry) (c .digit .ensures .1) (s .loop .inv .1 .small)
 
-mul-place : tie.Need-mul-place Inv-loop μ-loop
-mul-place c = search needs
+mul-digit : tie.Need-mul-digit Inv-loop μ-loop
+mul-digit c = search needs
 
-array-read-place : tie.Need-array-read-place Inv-loop μ-loop
-array-read-place c = search needs
+array-read-digit : tie.Need-array-read-digit Inv-loop μ-loop
+array-read-digit c = search needs
 
-place-requires : tie.Need-place-requires Inv-loop μ-loop
-place-requires c κs = search needs
+digit-requires : tie.Need-digit-requires Inv-loop μ-loop
+digit-requires c κs = search needs
 
 mul-t : tie.Need-mul-t Inv-loop μ-loop
 mul-t c = omega (arith, room c)
@@ -60,7 +60,7 @@ loop-again c =
     let s = c .before .before in
     let a = s .before .args in
     let l = s .loop in
-    let x = c .place in
+    let x = c .digit in
     (omega arith, multiplied-more (a .t1) (a .k) (a .c) (l .out) (l .carry) (l .j) (x .result) (omega arith) (x .ensures .1) (x .ensures .0) (l .inv .1))
 
 returns : tie.Need-returns Inv-loop μ-loop
@@ -78,9 +78,9 @@ times-plus-spec =
     Inv-loop
     μ-loop
     loop-holds
-    mul-place
-    array-read-place
-    place-requires
+    mul-digit
+    array-read-digit
+    digit-requires
     mul-t
     add-t
     cast-out

@@ -8,10 +8,10 @@ use lib.IntN.{ℤ, _+ℤ_}
 use mir.Syntax.{w64}
 use mir.Val.{SFits, toZ, ofZ}
 use mir.ValLaws.{toZ-ofZ}
-use Rattle.numbers.specs.Lists.{AtMost}
-use Rattle.numbers.specs.Sums.{sumℤ}
-use Rattle.numbers.proofs.SignedSums.{sumℤ-none, sumℤ-more}
-use Rattle.numbers.proofs.Casts.{product-fits, sum-fits, sum-gives}
+use Rattle.arithmetic.specs.Lists.{AtMost}
+use Rattle.arithmetic.specs.Sums.{sumℤ}
+use Rattle.arithmetic.proofs.SignedSums.{sumℤ-none, sumℤ-more}
+use Rattle.arithmetic.proofs.Casts.{product-fits, sum-fits, sum-gives}
 use Rattle.sample.specs.declared.Coordinate.{Coordinate}
 use Rattle.sample.specs.Cubic.{weight}
 use Rattle.sample.specs.Asked.{rowSum, rowStart, rowTerm}

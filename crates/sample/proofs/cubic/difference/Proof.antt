@@ -1,7 +1,7 @@
 -- `sample::cubic::difference` meets its contract. Assumes nothing.
 use mir.Syntax.{w64}
 use borrow.Author.Needs.{needs}
-use Rattle.numbers.proofs.Casts.{diff-fits, diff-gives}
+use Rattle.arithmetic.proofs.Casts.{diff-fits, diff-gives}
 use Rattle.sample.proofs.cubic.difference.Statement.{statement}
 use Rattle.sample.proofs.cubic.difference.Tie as tie
 

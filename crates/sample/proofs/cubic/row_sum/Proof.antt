@@ -9,10 +9,10 @@ use lib.IntN.{pos, _+ℤ_}
 use mir.Syntax.{w64}
 use mir.Val.{SFits, toZ, ofZ}
 use mir.ValLaws.{toZ-ofZ, toZ-pos}
-use Rattle.numbers.specs.Lists.{AtMost}
-use Rattle.numbers.specs.Sums.{sumℤ}
-use Rattle.numbers.proofs.SignedSums.{sumℤ-none, sumℤ-more}
-use Rattle.numbers.proofs.Casts.{product-fits, sum-fits, sum-gives}
+use Rattle.arithmetic.specs.Lists.{AtMost}
+use Rattle.arithmetic.specs.Sums.{sumℤ}
+use Rattle.arithmetic.proofs.SignedSums.{sumℤ-none, sumℤ-more}
+use Rattle.arithmetic.proofs.Casts.{product-fits, sum-fits, sum-gives}
 use Rattle.sample.specs.Cubic.{weight}
 use Rattle.sample.specs.Asked.{columnTerm}
 use Rattle.sample.proofs.Reach.{column-fits, columns-fit}

@@ -20,18 +20,18 @@ record Facts (w h k late : ℕ) (two : List ℕ) : Type 0 where
   newer-long : long w h k late ≤ w
   older-long : long w h k (late + 1) ≤ w
 
-facts : (s : tie.Start) → let a = s .args in Facts (a .w) (a .h) (a .k) (a .late) (now (a .two))
+facts : (s : tie.Start) → let a = s .args in Facts (a .width) (a .height) (a .k) (a .late) (now (a .two))
 facts s =
     let a = s .args in
     let given = s .pre .0 in
-    let wide = given .wide in
+    let width = given .width in
     record {
-      older = place-inside (a .w) (a .k % 2) (omega arith);
-      newer = place-inside (a .w) ((a .k + 1) % 2) (omega arith);
+      older = place-inside (a .width) (a .k % 2) (omega arith);
+      newer = place-inside (a .width) ((a .k + 1) % 2) (omega arith);
       room = omega (arith, given .room);
       few = omega arith;
-      newer-long = long-most (a .h) (a .k) (a .late) (a .w);
-      older-long = long-most (a .h) (a .k) (a .late + 1) (a .w);
+      newer-long = long-most (a .height) (a .k) (a .late) (a .width);
+      older-long = long-most (a .height) (a .k) (a .late + 1) (a .width);
     }
 
 -- the start, seen from where the newer row's length is known
@@ -42,7 +42,7 @@ returns : tie.Need-returns
 returns c =
     let s = start (c .before) in
     let a = s .args in
-    none-completed (a .w) (a .h) (a .k) (a .late) (now (a .two)) (now (a .row)) (now (a .out)) (s .pre .0) _ (c .before .long .ensures)
+    none-completed (a .width) (a .height) (a .k) (a .late) (now (a .two)) (now (a .row)) (now (a .out)) (s .pre .0) _ (c .before .long .ensures)
     (omega arith)
 
 returns-2 : tie.Need-returns-2
@@ -53,7 +53,7 @@ returns-2 c =
     let newer-known = there .before in
     let s = start newer-known in
     let a = s .args in
-    row-completed (a .w) (a .h) (a .k) (a .late) (now (a .two)) (now (a .row)) (now (a .out)) (s .pre .0) _ _
+    row-completed (a .width) (a .height) (a .k) (a .late) (now (a .two)) (now (a .row)) (now (a .out)) (s .pre .0) _ _
     (newer-known .long .ensures) (older-known .long2 .ensures) (there .if1 .left) (s .pre .1) _ (made .row .ensures)
 
 long-requires : tie.Need-long-requires

@@ -20,19 +20,19 @@ complete-requires c κs = c .before .before .before .before .before .pre
 mul-put : tie.Need-mul-put
 mul-put c =
     let s = start (completed c) in
-    omega (arith, place-fits (s .args .w) (s .args .k) (s .args .late) (now (s .args .two)) (now (s .args .row)) (s .pre .0))
+    omega (arith, place-fits (s .args .width) (s .args .k) (s .args .late) (now (s .args .two)) (now (s .args .row)) (s .pre .0))
 
 put-requires : tie.Need-put-requires
 put-requires c κs =
     let s = start (completed c) in
-    place-fits (s .args .w) (s .args .k) (s .args .late) (now (s .args .two)) (now (s .args .row)) (s .pre .0)
+    place-fits (s .args .width) (s .args .k) (s .args .late) (now (s .args .two)) (now (s .args .row)) (s .pre .0)
 
 returns : tie.Need-returns
 returns c =
     let put = c .before .before in
     let done = completed (put .before) in
     let a = start done .args in
-    (is-replaced (a .w) (a .h) (a .k) (a .late) (now (a .two)) (now (a .row)) _ (put .put .ensures), done .complete .ensures)
+    (is-replaced (a .width) (a .height) (a .k) (a .late) (now (a .two)) (now (a .row)) _ (put .put .ensures), done .complete .ensures)
 
 same-length : tie.Need-same-length
 same-length c = search needs

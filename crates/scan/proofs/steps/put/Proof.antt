@@ -4,7 +4,7 @@ use Prim.Native.Nat.{_-_, _≤_}
 use native.Mathlib.Omega.{arith}
 use denote.Ref.{now}
 use lib.ListN.{length, getD}
-use Rattle.numbers.proofs.Writing.{Overwritten, overwritten-none, overwritten-more, overwritten-all}
+use Rattle.arithmetic.proofs.Writing.{Overwritten, overwritten-none, overwritten-more, overwritten-all}
 use Rattle.scan.proofs.steps.put.Statement.{statement}
 use Rattle.scan.proofs.steps.put.Tie as tie
 

@@ -14,23 +14,23 @@ use Rattle.memory.specs.Memory.{twoOf}
 use Rattle.memory.proofs.Memories.{first-two}
 use Rattle.scan.specs.Ring.{heldIn, replaced}
 use Rattle.scan.proofs.SixRows.{second-two, third-two, all-three}
-use Rattle.scan.specs.Held.{halvesRow, quartersRow}
+use Rattle.scan.specs.Held.{passOneRow, passTwoRow}
 use Rattle.scan.specs.Asked.{long}
 use Rattle.scan.proofs.Shown.{long-most}
 use Rattle.scan.proofs.Turns.{length-next}
-use Rattle.scan.proofs.Passing.{front-is, Arriving, length-halves-row, length-quarters-row, below-levels, below-halves, below-quarters}
-use Rattle.scan.proofs.Passing.{halves-are, quarters-are, eighths-are, two-are, length-two-are, rows-are}
+use Rattle.scan.proofs.Passing.{front-is, Arriving, length-pass-one-row, length-pass-two-row, below-levels, below-pass-one, below-pass-two}
+use Rattle.scan.proofs.Passing.{pass-one-is-row, pass-two-is-row, pass-three-is-row, two-are, length-two-are, rows-are}
 use Rattle.scan.proofs.steps.take_row.Statement.{statement}
 use Rattle.scan.proofs.steps.take_row.Tie as tie
 
 -- what the arguments say of lengths
-record Lengths (w h k rows levels wide halves quarters : ℕ) : Type 0 where
+record Lengths (w h k rows levels widened halves quarters : ℕ) : Type 0 where
   few : w ≤ 1024
   six : 6 * w ≤ rows
   levels-fit : levels ≤ w
   halves-fit : long w h k 1 ≤ w
   quarters-fit : long w h k 2 ≤ w
-  wide-room : w ≤ wide
+  widened-room : w ≤ widened
   halves-room : w ≤ halves
   quarters-room : w ≤ quarters
 
@@ -40,10 +40,10 @@ module _ (widened : tie.After-widen) where
   start = widened .before .before .before .before .before .before .before .before .before .before
 
   abbrev w : ℕ
-  w = start .args .w
+  w = start .args .width
 
   abbrev h : ℕ
-  h = start .args .h
+  h = start .args .height
 
   abbrev k : ℕ
   k = start .args .k
@@ -61,22 +61,22 @@ module _ (widened : tie.After-widen) where
     bytes = λ i. omega (arith, widened .before .before .before .before .before .before .before .before .shared-slice-known .given i);
   }
 
-  wide-is : take (length levels) (widened .widen .last .1 .0) ≡ levels
-  wide-is = front-is (length levels) (widened .widen .last .1 .0) levels _ (widened .widen .ensures) refl
+  widened-is : take (length levels) (widened .widen .last .1 .0) ≡ levels
+  widened-is = front-is (length levels) (widened .widen .last .1 .0) levels _ (widened .widen .ensures) refl
 
 -- what is known of lengths all the way
 lengths : (s : tie.Start) → let a = s .args in
-    Lengths (a .w) (a .h) (a .k) (length (now (a .rows))) (length (now (a .levels))) (length (now (a .wide))) (length (now (a .halves)))
+    Lengths (a .width) (a .height) (a .k) (length (now (a .rows))) (length (now (a .levels))) (length (now (a .widened))) (length (now (a .halves)))
     (length (now (a .quarters)))
 lengths s =
     let a = s .args in
     record {
-      few = s .pre .0 .0 .wide .1;
+      few = s .pre .0 .0 .width .1;
       six = s .pre .0 .0 .room;
-      levels-fit = omega (arith, s .pre .0 .1, long-most (a .h) (a .k) 0 (a .w));
-      halves-fit = long-most (a .h) (a .k) 1 (a .w);
-      quarters-fit = long-most (a .h) (a .k) 2 (a .w);
-      wide-room = s .pre .1 .0;
+      levels-fit = omega (arith, s .pre .0 .1, long-most (a .height) (a .k) 0 (a .width));
+      halves-fit = long-most (a .height) (a .k) 1 (a .width);
+      quarters-fit = long-most (a .height) (a .k) 2 (a .width);
+      widened-room = s .pre .1 .0;
       halves-room = s .pre .1 .1;
       quarters-room = s .pre .1 .2;
     }
@@ -103,19 +103,19 @@ module _ (one : tie.After-pass) where
   halves = one .pass .last .1 .1 .1 .1 .1 .1 .0
 
   a-is : a ≡ replaced w₁ (k widened₁) (twoOf w₁ rows₁ 0) levels₁
-  a-is = two-are (arriving widened₁) 0 _ _ a _ (first-two w₁ rows₁) (wide-is widened₁) (one .pass .ensures .0)
+  a-is = two-are (arriving widened₁) 0 _ _ a _ (first-two w₁ rows₁) (widened-is widened₁) (one .pass .ensures .0)
 
   a-long : length a ≡ w₁ + w₁
   a-long = length-two-are (arriving widened₁) 0 0 (omega arith) a levels₁ (arriving widened₁ .long-as) a-is
 
-  halves-is : halves ≡ halvesRow (heldIn w₁ (h widened₁) (k widened₁) rows₁) levels₁ ++ drop (long w₁ (h widened₁) (k widened₁) 1)
+  halves-is : halves ≡ passOneRow (heldIn w₁ (h widened₁) (k widened₁) rows₁) levels₁ ++ drop (long w₁ (h widened₁) (k widened₁) 1)
       (now (start widened₁ .args .halves))
-  halves-is = halves-are (arriving widened₁) _ _ halves _ (first-two w₁ rows₁) (wide-is widened₁) (one .pass .ensures .1)
+  halves-is = pass-one-is-row (arriving widened₁) _ _ halves _ (first-two w₁ rows₁) (widened-is widened₁) (one .pass .ensures .1)
 
   halves-front : take (widened₁ .before .before .before .long .result) halves
-      ≡ halvesRow (heldIn w₁ (h widened₁) (k widened₁) rows₁) levels₁
+      ≡ passOneRow (heldIn w₁ (h widened₁) (k widened₁) rows₁) levels₁
   halves-front =
-      front-is _ halves _ _ halves-is (length-halves-row (arriving widened₁) ∙ sym (widened₁ .before .before .before .long .ensures))
+      front-is _ halves _ _ halves-is (length-pass-one-row (arriving widened₁) ∙ sym (widened₁ .before .before .before .long .ensures))
 
 -- ---- pass two is made
 module _ (two : tie.After-pass2) where
@@ -147,22 +147,22 @@ module _ (two : tie.After-pass2) where
   abbrev quarters : List ℕ
   quarters = two .pass2 .last .1 .1 .1 .1 .1 .1 .0
 
-  b-is : b ≡ replaced w₂ (k widened₂) (twoOf w₂ rows₂ 1) (halvesRow (heldIn w₂ (h widened₂) (k widened₂) rows₂) (levels widened₂))
+  b-is : b ≡ replaced w₂ (k widened₂) (twoOf w₂ rows₂ 1) (passOneRow (heldIn w₂ (h widened₂) (k widened₂) rows₂) (levels widened₂))
   b-is = two-are (arriving widened₂) 1 _ _ b _ (second-two w₂ rows₂ (a one₂) (a-long one₂)) (halves-front one₂) (two .pass2 .ensures .0)
 
   b-long : length b ≡ w₂ + w₂
-  b-long = length-two-are (arriving widened₂) 1 1 (omega arith) b _ (length-halves-row (arriving widened₂)) b-is
+  b-long = length-two-are (arriving widened₂) 1 1 (omega arith) b _ (length-pass-one-row (arriving widened₂)) b-is
 
-  quarters-is : quarters ≡ quartersRow (heldIn w₂ (h widened₂) (k widened₂) rows₂) (levels widened₂) ++ drop
+  quarters-is : quarters ≡ passTwoRow (heldIn w₂ (h widened₂) (k widened₂) rows₂) (levels widened₂) ++ drop
       (long w₂ (h widened₂) (k widened₂) 2) (now (start widened₂ .args .quarters))
   quarters-is =
-      quarters-are (arriving widened₂) _ _ quarters _ (second-two w₂ rows₂ (a one₂) (a-long one₂)) (halves-front one₂)
+      pass-two-is-row (arriving widened₂) _ _ quarters _ (second-two w₂ rows₂ (a one₂) (a-long one₂)) (halves-front one₂)
       (two .pass2 .ensures .1)
 
   quarters-front : take (widened₂ .before .before .long2 .result) quarters
-      ≡ quartersRow (heldIn w₂ (h widened₂) (k widened₂) rows₂) (levels widened₂)
+      ≡ passTwoRow (heldIn w₂ (h widened₂) (k widened₂) rows₂) (levels widened₂)
   quarters-front =
-      front-is _ quarters _ _ quarters-is (length-quarters-row (arriving widened₂) ∙ sym (widened₂ .before .before .long2 .ensures))
+      front-is _ quarters _ _ quarters-is (length-pass-two-row (arriving widened₂) ∙ sym (widened₂ .before .before .long2 .ensures))
 
 -- ---- pass three is made
 module _ (three : tie.After-pass3) where
@@ -184,7 +184,7 @@ module _ (three : tie.After-pass3) where
   abbrev c : List ℕ
   c = three .pass3 .last .0
 
-  c-is : c ≡ replaced w₃ (k widened₃) (twoOf w₃ rows₃ 2) (quartersRow (heldIn w₃ (h widened₃) (k widened₃) rows₃) (levels widened₃))
+  c-is : c ≡ replaced w₃ (k widened₃) (twoOf w₃ rows₃ 2) (passTwoRow (heldIn w₃ (h widened₃) (k widened₃) rows₃) (levels widened₃))
   c-is =
       two-are (arriving widened₃) 2 _ _ c _ (third-two w₃ rows₃ (a one₃) (a-long one₃) (b two₃) (b-long two₃)) (quarters-front two₃)
       (three .pass3 .ensures .0)
@@ -199,7 +199,7 @@ returns end =
     let third = third-two (w₃ three) (rows₃ three) (a one) (a-long one) (b two) (b-long two) in
     let all = all-three (w₃ three) (rows₃ three) (a one) (a-long one) (b two) (b-long two) (c three) in (
       rows-are at _ (a one) (b two) (c three) all (a-is one) (b-is two) (c-is three),
-      eighths-are at _ _ _ _ third (quarters-front two) (three .pass3 .ensures .1),
+      pass-three-is-row at _ _ _ _ third (quarters-front two) (three .pass3 .ensures .1),
     )
 
 same-length : tie.Need-same-length
@@ -214,14 +214,14 @@ pass-requires : tie.Need-pass-requires
 pass-requires c κs =
     let widened = c .before .before .before .before .before in
     let known = lengths (start widened) in
-    let below = below-levels (arriving widened) _ _ (first-two (w widened) (rows widened)) (wide-is widened) in
+    let below = below-levels (arriving widened) _ _ (first-two (w widened) (rows widened)) (widened-is widened) in
     (below, le-trans (known .halves-fit) (known .halves-room))
 
 pass-requires-2 : tie.Need-pass-requires-2
 pass-requires-2 c κs =
     let one = c .before .before .before .before .before .before .before in
     let known = lengths (start (widened₁ one)) in
-    let below = below-halves (arriving (widened₁ one)) _ _ (second-two (w₁ one) (rows₁ one) (a one) (a-long one)) (halves-front one) in
+    let below = below-pass-one (arriving (widened₁ one)) _ _ (second-two (w₁ one) (rows₁ one) (a one) (a-long one)) (halves-front one) in
     (below, le-trans (known .quarters-fit) (known .quarters-room))
 
 pass-requires-3 : tie.Need-pass-requires-3
@@ -229,7 +229,7 @@ pass-requires-3 c κs =
     let two = c .before .before .before .before .before .before .before in
     let one = one₂ two in
     let third = third-two (w₂ two) (rows₂ two) (a one) (a-long one) (b two) (b-long two) in
-    (below-quarters (arriving (widened₂ two)) _ _ third (quarters-front two), start (widened₂ two) .pre .0 .2)
+    (below-pass-two (arriving (widened₂ two)) _ _ third (quarters-front two), start (widened₂ two) .pre .0 .2)
 
 widen-requires : tie.Need-widen-requires
 widen-requires c κs = omega (arith, lengths (c .before .before .before .before .before .before .before .before .before))

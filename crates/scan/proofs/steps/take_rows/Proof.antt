@@ -8,8 +8,8 @@ use borrow.Author.Needs.{needs}
 use borrow.Rule.Slice.PartMut.{same-len-mid}
 use denote.Ref.{now}
 use lib.ListN.{length, take, drop, length-take, length-drop}
-use Rattle.numbers.specs.Lists.{AtMost}
-use Rattle.numbers.proofs.Order.{row-end}
+use Rattle.arithmetic.specs.Lists.{AtMost}
+use Rattle.arithmetic.proofs.Order.{row-end}
 use Rattle.memory.specs.Memory.{rowAt}
 use Rattle.scan.specs.Ring.{heldIn}
 use Rattle.scan.specs.Held.{given}
@@ -19,10 +19,10 @@ use Rattle.scan.proofs.steps.take_rows.Statement.{statement}
 use Rattle.scan.proofs.steps.take_rows.Tie as tie
 
 -- what holds before turn i
-record Turn (w h k each n : ℕ) (levels rows₀ output₀ rows output wide halves quarters : List ℕ) (i at done : ℕ) : Type 0 where
+record Turn (w h k each n : ℕ) (levels rows₀ output₀ rows output widened halves quarters : List ℕ) (i at done : ℕ) : Type 0 where
   within : i ≤ n
   at-is : at ≡ i * each
-  wide-long : length wide ≡ 1024
+  widened-long : length widened ≡ 1024
   halves-long : length halves ≡ 1024
   quarters-long : length quarters ≡ 1024
   rows-long : length rows ≡ length rows₀
@@ -30,11 +30,11 @@ record Turn (w h k each n : ℕ) (levels rows₀ output₀ rows output wide halv
   taken : Taken w h k rows₀ (rowAt each levels) output₀ i done rows output
 
 abbrev Inv-loop : tie.InvT-loop
-Inv-loop rows₀ w h k each n levels output₀ wide₀ halves₀ quarters₀ i₀ at₀ done₀ rows output wide halves quarters i at done =
-    Turn w h k each n levels rows₀ output₀ rows output wide halves quarters i at done
+Inv-loop rows₀ w h k each n levels output₀ widened₀ halves₀ quarters₀ i₀ at₀ done₀ rows output widened halves quarters i at done =
+    Turn w h k each n levels rows₀ output₀ rows output widened halves quarters i at done
 
 abbrev μ-loop : tie.MeasureT-loop
-μ-loop rows₀ w h k each n levels output₀ wide₀ halves₀ quarters₀ i₀ at₀ done₀ rows output wide halves quarters i at done = n - i
+μ-loop rows₀ w h k each n levels output₀ widened₀ halves₀ quarters₀ i₀ at₀ done₀ rows output widened halves quarters i at done = n - i
 
 loop-holds : tie.Need-loop-holds Inv-loop μ-loop
 loop-holds c =
@@ -43,12 +43,12 @@ loop-holds c =
     record {
       within = search needs;
       at-is = omega arith;
-      wide-long = search needs;
+      widened-long = search needs;
       halves-long = search needs;
       quarters-long = search needs;
       rows-long = refl;
       output-long = refl;
-      taken = taken-none (a .w) (a .h) (a .k) (now (a .rows)) (rowAt (a .each) (now (a .levels))) (now (a .output)) (start .pre .0);
+      taken = taken-none (a .width) (a .height) (a .k) (now (a .rows)) (rowAt (a .each) (now (a .levels))) (now (a .output)) (start .pre .0);
     }
 
 -- what is known of turn i
@@ -66,18 +66,18 @@ module _ (turning : tie.In-loop Inv-loop μ-loop) where
   start = turning .before .before .before .before .before .before .before .before
 
   known : let a = start .args in let l = turning .before .loop in
-      Known (a .w) (a .h) (a .k) (a .each) (a .n) (length (now (a .levels))) (length (now (a .output))) (l .i) (l .at) (l .done)
+      Known (a .width) (a .height) (a .k) (a .each) (a .n) (length (now (a .levels))) (length (now (a .output))) (l .i) (l .at) (l .done)
   known =
       let a = start .args in
       let l = turning .before .loop in
       let so-far = l .inv .taken in
       let coming = start .pre .1 in
-      let held = heldIn (a .w) (a .h) (a .k) (now (a .rows)) in
+      let held = heldIn (a .width) (a .height) (a .k) (now (a .rows)) in
       let f = rowAt (a .each) (now (a .levels)) in
       let count = so-far .count in
       let before = le-trans (given-grows held f (l .i) (a .n) (omega arith)) (coming .room) in
       let then = le-trans (given-grows held f (l .i + 1) (a .n) (omega arith)) (coming .room) in
-      let more = given-count (a .w) (a .h) (a .k) (now (a .rows)) f (now (a .output)) (l .i) (l .done) (l .rows) (l .output) so-far in
+      let more = given-count (a .width) (a .height) (a .k) (now (a .rows)) f (now (a .output)) (l .i) (l .done) (l .rows) (l .output) so-far in
       record {
         inside = omega (arith, row-end (a .each) (a .n) (l .i) (omega arith), coming .levels-are, l .inv .at-is);
         row-there = coming .rows-are (l .i) (omega arith);
@@ -138,11 +138,11 @@ take-row-requires c κs =
     let l = turning .before .loop in
     let t = l .inv in
     let is = known turning in
-    let wide = start turning .pre .0 .wide in
-    let room : long (a .w) (a .h) (a .k + l .i) 3 ≤ length (take (length (l .output) - l .done) (drop (l .done) (l .output))) =
+    let width = start turning .pre .0 .width in
+    let room : long (a .width) (a .height) (a .k + l .i) 3 ≤ length (take (length (l .output) - l .done) (drop (l .done) (l .output))) =
     simp (length-take, length-drop) (omega (arith, is .room, t .output-long)) in (
       (t .taken .ready, part-long (a .each) (l .i) (l .at) (now (a .levels)) (t .at-is) (is .inside) _ (is .row-there), room),
-      (omega (arith, wide, t .wide-long), omega (arith, wide, t .halves-long), omega (arith, wide, t .quarters-long)),
+      (omega (arith, width, t .widened-long), omega (arith, width, t .halves-long), omega (arith, width, t .quarters-long)),
     )
 
 -- past the row that was taken, the turn
@@ -179,7 +179,7 @@ loop-again c =
     record {
       within = is .one-more;
       at-is = omega (arith, t .at-is);
-      wide-long = row .kept .1 .1 .1 .1 .1 .0 ∙ t .wide-long;
+      widened-long = row .kept .1 .1 .1 .1 .1 .0 ∙ t .widened-long;
       halves-long = row .kept .1 .1 .1 .1 .1 .1 .0 ∙ t .halves-long;
       quarters-long = row .kept .1 .1 .1 .1 .1 .1 .1 .0 ∙ t .quarters-long;
       rows-long = row .kept .0 ∙ t .rows-long;
@@ -187,7 +187,7 @@ loop-again c =
           same-len-mid (l .done) (length (l .output) - l .done) (l .output) (row .last .1 .1 .1 .1 .1 .1 .1 .1 .0)
           (row .kept .1 .1 .1 .1 .1 .1 .1 .1 .0) ∙ t .output-long;
       taken =
-          turn (a .each) (l .i) (l .at) (now (a .levels)) (t .at-is) (is .inside) (a .w) (a .h) (a .k) (l .done) _ (now (a .rows))
+          turn (a .each) (l .i) (l .at) (now (a .levels)) (t .at-is) (is .inside) (a .width) (a .height) (a .k) (l .done) _ (now (a .rows))
           (now (a .output))
           (l .rows) (l .output) (row .last .0) _ (row .last .1 .1 .1 .1 .1 .1 .1 .1 .0) (t .taken) (is .row-there) (bytes turning) (is .few)
           (row .ensures .0) (row .ensures .1) refl (ap (λ (z : ℕ). l .done + z) (c .long .ensures));
@@ -203,7 +203,7 @@ returns : tie.Need-returns Inv-loop μ-loop
 returns c =
     let l = c .before .loop in
     let a = c .before .before .before .before .before .before .before .before .args in
-    taken-all (a .w) (a .h) (a .k) (now (a .rows)) (rowAt (a .each) (now (a .levels))) (now (a .output)) (l .i) (a .n) (l .done) (l .rows)
+    taken-all (a .width) (a .height) (a .k) (now (a .rows)) (rowAt (a .each) (now (a .levels))) (now (a .output)) (l .i) (a .n) (l .done) (l .rows)
     (l .output) (omega arith) (l .inv .taken)
 
 blank-requires : tie.Need-blank-requires Inv-loop μ-loop

@@ -4,7 +4,7 @@ use Prim.Native.Nat.{_-_, _≤_}
 use native.Mathlib.Omega.{arith}
 use denote.Ref.{now}
 use lib.ListN.{length, getD}
-use Rattle.numbers.proofs.Writing.{Overwritten, overwritten-none, overwritten-front, overwritten-all}
+use Rattle.arithmetic.proofs.Writing.{Overwritten, overwritten-none, overwritten-front, overwritten-all}
 use Rattle.scan.proofs.steps.widen.Statement.{statement}
 use Rattle.scan.proofs.steps.widen.Tie as tie
 

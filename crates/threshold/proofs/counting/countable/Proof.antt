@@ -3,7 +3,7 @@ use mathlib.Core.Path.{refl}
 use native.Mathlib.Omega.{arith}
 use borrow.Author.Needs.{needs}
 use denote.Ref.{now}
-use Rattle.numbers.proofs.Refusals.{stops}
+use Rattle.answers.proofs.Refusals.{stops}
 use Rattle.threshold.proofs.Histograms.{countable-is}
 use Rattle.threshold.proofs.counting.countable.Statement.{statement}
 use Rattle.threshold.proofs.counting.countable.Tie as tie

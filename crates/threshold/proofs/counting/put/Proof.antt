@@ -4,7 +4,7 @@ use mathlib.Core.List.{List}
 use Prim.Native.Nat.{ℕ, _-_, _≤_}
 use native.Mathlib.Omega.{arith}
 use lib.ListN.{length, getD}
-use Rattle.numbers.proofs.Lists.{Written, written-none, written-more, written-all}
+use Rattle.arithmetic.proofs.Lists.{Written, written-none, written-more, written-all}
 use Rattle.threshold.proofs.counting.put.Statement.{statement}
 use Rattle.threshold.proofs.counting.put.Tie as tie
 

@@ -1,6 +1,6 @@
 -- `threshold::ends::start` meets its contract: its tests are those of the definition. Assumes nothing.
 use borrow.Author.Needs.{needs}
-use Rattle.threshold.proofs.Present.{start-low, start-high, start-middle}
+use Rattle.threshold.proofs.Present.{start-low, start-high, start-usual}
 use Rattle.threshold.proofs.ends.start.Statement.{statement}
 use Rattle.threshold.proofs.ends.start.Tie as tie
 
@@ -21,7 +21,7 @@ returns-2 c =
 returns-3 : tie.Need-returns-3
 returns-3 c =
     let ends = c .before .before in
-    start-middle _ _ (ends .before .lowest .ensures) (ends .highest .ensures) (c .before .if1 .left) (c .if2 .left)
+    start-usual _ _ (ends .before .lowest .ensures) (ends .highest .ensures) (c .before .if1 .left) (c .if2 .left)
 
 pub start-spec : {M : Type 1} → statement M
 start-spec = tie.close (tie.spec lowest-requires highest-requires returns returns-2 returns-3)

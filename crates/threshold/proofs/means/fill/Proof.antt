@@ -7,19 +7,19 @@ use Rattle.threshold.proofs.means.fill.Statement.{statement}
 use Rattle.threshold.proofs.means.fill.Tie as tie
 
 abbrev Inv-loop : tie.InvT-loop
-Inv-loop histogram counted₀ summed₀ number₀ sum₀ v₀ counted summed number sum v = (v ≤ length histogram) × Filling histogram v counted summed number sum
+Inv-loop histogram below₀ sums₀ number₀ sum₀ v₀ below sums number sum v = (v ≤ length histogram) × Filling histogram v below sums number sum
 
 abbrev μ-loop : tie.MeasureT-loop
-μ-loop histogram counted₀ summed₀ number₀ sum₀ v₀ counted summed number sum v = length histogram - v
+μ-loop histogram below₀ sums₀ number₀ sum₀ v₀ below sums number sum v = length histogram - v
 
-slice-write-counted : tie.Need-slice-write-counted Inv-loop μ-loop
-slice-write-counted c = omega arith
+slice-write-below : tie.Need-slice-write-below Inv-loop μ-loop
+slice-write-below c = omega arith
 
-slice-write-summed : tie.Need-slice-write-summed Inv-loop μ-loop
-slice-write-summed c = omega arith
+slice-write-sums : tie.Need-slice-write-sums Inv-loop μ-loop
+slice-write-sums c = omega arith
 
 loop-holds : tie.Need-loop-holds Inv-loop μ-loop
-loop-holds c = (omega arith, filling-none _ (c .args .counted .now) (c .args .summed .now) (c .pre .1 .0) (c .pre .1 .1))
+loop-holds c = (omega arith, filling-none _ (c .args .below .now) (c .args .sums .now) (c .pre .1 .0) (c .pre .1 .1))
 
 mul-count : tie.Need-mul-count Inv-loop μ-loop
 mul-count c = omega arith
@@ -48,17 +48,17 @@ add-sum c =
 add-v : tie.Need-add-v Inv-loop μ-loop
 add-v c = omega arith
 
-mul-counted : tie.Need-mul-counted Inv-loop μ-loop
-mul-counted c = omega arith
+mul-below : tie.Need-mul-below Inv-loop μ-loop
+mul-below c = omega arith
 
-slice-write-counted-2 : tie.Need-slice-write-counted-2 Inv-loop μ-loop
-slice-write-counted-2 c = omega arith
+slice-write-below-2 : tie.Need-slice-write-below-2 Inv-loop μ-loop
+slice-write-below-2 c = omega arith
 
-mul-summed : tie.Need-mul-summed Inv-loop μ-loop
-mul-summed c = omega arith
+mul-sums : tie.Need-mul-sums Inv-loop μ-loop
+mul-sums c = omega arith
 
-slice-write-summed-2 : tie.Need-slice-write-summed-2 Inv-loop μ-loop
-slice-write-summed-2 c = omega arith
+slice-write-sums-2 : tie.Need-slice-write-sums-2 Inv-loop μ-loop
+slice-write-sums-2 c = omega arith
 
 loop-less : tie.Need-loop-less Inv-loop μ-loop
 loop-less c = omega arith
@@ -81,8 +81,8 @@ fill-spec =
     (tie.spec
     Inv-loop
     μ-loop
-    slice-write-counted
-    slice-write-summed
+    slice-write-below
+    slice-write-sums
     loop-holds
     mul-count
     shared-slice-read-count
@@ -91,10 +91,10 @@ fill-spec =
     mul-sum
     add-sum
     add-v
-    mul-counted
-    slice-write-counted-2
-    mul-summed
-    slice-write-summed-2
+    mul-below
+    slice-write-below-2
+    mul-sums
+    slice-write-sums-2
     loop-less
     loop-again
     same-length

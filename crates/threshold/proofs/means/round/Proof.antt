@@ -3,7 +3,7 @@ use mathlib.Core.Logic.{⊎-elim}
 use native.Mathlib.Nat.{div-mul-le-self}
 use native.Mathlib.Omega.{arith}
 use borrow.Author.Needs.{needs}
-use Rattle.threshold.proofs.Tables.{Places, places-whole, places-part, whole-in, ReadFrom, summed-in, counted-in, read, round-is}
+use Rattle.threshold.proofs.Tables.{Places, places-whole, places-part, whole-in, ReadFrom, sums-in, below-in, read, round-is}
 use Rattle.threshold.proofs.means.round.Statement.{statement}
 use Rattle.threshold.proofs.means.round.Tie as tie
 
@@ -22,7 +22,7 @@ places c =
 is-read : (c : tie.After-shared-slice-known6) →
     let joined = c .before .before .before .before .before .before .before in
     let given = joined .before .before .before .before .args in
-    ReadFrom (given .histogram .now) (given .counted .now) (given .summed .now) (given .t) (joined .if1 .from)
+    ReadFrom (given .histogram .now) (given .below .now) (given .sums .now) (given .t) (joined .if1 .from)
 is-read c =
     let joined = c .before .before .before .before .before .before .before in
     let asked = joined .before .before .before .before .pre in
@@ -64,7 +64,7 @@ shared-slice-read-high-sum-2 c = omega (arith, places (c .before .before .before
 sub-high-sum : tie.Need-sub-high-sum
 sub-high-sum c =
     let joined = c .before .before .before .before .before in
-    summed-in (joined .before .before .before .before .pre .0 .0) (places joined)
+    sums-in (joined .before .before .before .before .pre .0 .0) (places joined)
 
 mul-high-number : tie.Need-mul-high-number
 mul-high-number c = search needs
@@ -81,7 +81,7 @@ shared-slice-read-high-number-2 c = omega (arith, places (c .before .before .bef
 sub-high-number : tie.Need-sub-high-number
 sub-high-number c =
     let joined = c .before .before .before .before .before .before .before in
-    counted-in (joined .before .before .before .before .pre .0 .0) (places joined)
+    below-in (joined .before .before .before .before .pre .0 .0) (places joined)
 
 mul-numerator : tie.Need-mul-numerator
 mul-numerator c = omega (arith, is-read c)

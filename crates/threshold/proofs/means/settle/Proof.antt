@@ -6,18 +6,18 @@ use native.Mathlib.Omega.{arith}
 use lib.ListN.{length}
 use borrow.Author.Needs.{needs}
 use denote.Ref.{now}
-use Rattle.numbers.proofs.Fractions.{they-differ, they-agree}
+use Rattle.arithmetic.proofs.Fractions.{they-differ, they-agree}
 use Rattle.threshold.specs.Histogram.{total}
 use Rattle.threshold.proofs.Settling.{Going, first-within, first-room, going-first, next-within, going-on, still-time, going-ends}
 use Rattle.threshold.proofs.means.settle.Statement.{statement}
 use Rattle.threshold.proofs.means.settle.Tie as tie
 
 abbrev Inv-loop : tie.InvT-loop
-Inv-loop histogram counted summed middle first next₀ t₀ rounds₀ next t rounds = Going middle histogram rounds t next
+Inv-loop histogram below sums usual first next₀ t₀ rounds₀ next t rounds = Going usual histogram rounds t next
 
 -- the rounds that may still come, and one
 abbrev μ-loop : tie.MeasureT-loop
-μ-loop histogram counted summed middle first next₀ t₀ rounds₀ next t rounds = 2 * length histogram - rounds
+μ-loop histogram below sums usual first next₀ t₀ rounds₀ next t rounds = 2 * length histogram - rounds
 
 start-requires : tie.Need-start-requires Inv-loop μ-loop
 start-requires c κs = search needs
@@ -25,7 +25,7 @@ start-requires c κs = search needs
 -- where the start is known
 module _ (c : tie.After-start Inv-loop μ-loop) where
   abbrev m : ℕ
-  m = c .before .before .before .before .args .middle
+  m = c .before .before .before .before .args .usual
 
   abbrev h : List ℕ
   h = now (c .before .before .before .before .args .histogram)

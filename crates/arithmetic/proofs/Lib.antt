@@ -1,0 +1,14 @@
+pub mod Order
+pub mod Greatest
+pub mod Most
+pub mod Differences
+pub mod Lists
+pub mod Writing
+pub mod LittleEndian
+pub mod Sums
+pub mod SignedSums
+pub mod Ranges
+pub mod Casts
+pub mod Computed
+pub mod Fractions
+pub mod Outcomes

@@ -1,0 +1,31 @@
+-- `arithmetic::bytes::complement` meets its contract: the complement of a complement has the bits that one started from.
+-- Assumes nothing.
+use mathlib.Core.Path.{_≡_, ap}
+use Prim.Native.Nat.{_-_}
+use native.Mathlib.Omega.{arith}
+use mir.Syntax.{w64}
+use mir.Val.{toZ}
+use borrow.Author.Needs.{needs}
+use Rattle.arithmetic.proofs.bytes.complement.Statement.{statement}
+use Rattle.arithmetic.proofs.bytes.complement.Tie as tie
+
+cast-result : tie.Need-cast-result
+cast-result c = search needs
+
+returns : tie.Need-returns
+returns c = search needs
+
+sub-result : tie.Need-sub-result
+sub-result c = search needs
+
+cast-result-2 : tie.Need-cast-result-2
+cast-result-2 c = search needs
+
+returns-2 : tie.Need-returns-2
+returns-2 c =
+    let n = c .before .args .n in
+    let back : 18446744073709551615 - (18446744073709551615 - n) ≡ n = omega arith in
+    ap (toZ w64) back
+
+pub complement-spec : {M : Type 1} → statement M
+complement-spec = tie.close (tie.spec cast-result returns sub-result cast-result-2 returns-2)

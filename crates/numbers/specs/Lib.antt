@@ -1,7 +1,0 @@
-pub mod Bytes
-pub mod Refusals
-pub mod Greatest
-pub mod Signed
-pub mod Lists
-pub mod Sums
-pub mod Fractions
