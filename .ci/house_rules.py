@@ -1,13 +1,14 @@
 """The rules of the house that a program can look after, each a function: it takes a tree and gives back what breaks it.
 
-Its docstring is the rule. `.ci/house` runs them all; `.ci/house-test` shows each of them to fail on planted faults.
+Its docstring is the rule; those about words stand in words.py. `.ci/house` runs them all; `.ci/house-test` shows each of them to fail
+on planted faults.
 """
 import re
 import subprocess
-from functools import cache
 
 from promises import Page
 from tree import brought, items, outside, parted, source
+from words import all_there, own_words, short_notes
 
 # The calls whose result no contract can determine, as docs/PROMISES.md says in a part "Not determined": no others.
 UNDETERMINED = ('streams::read',)
@@ -159,20 +160,29 @@ def fields(function):
     return []
 
 
-# The C door hands on what the calls below it promise, of which each has two wrong programs of its own.
+# The C door hands on what the calls below it promise, of which each has two wrong programs of its own: so one is enough there, and
+# none is needed where the promise is that of the call below, word for word.
 C_DOOR = 'gong'
 
 
+def least_edits(crate, parts):
+    """How many wrong programs a call of a crate must have."""
+    if crate.name != C_DOOR:
+        return 2
+    return 0 if 'the same promise' in parts.get('determined', '') else 1
+
+
 def wrong_programs(tree):
-    """docs/PROMISES.md names for each public call two wrong programs or more (one at the C door), its own and no other call's,
-    each is an edit of its crate, and each edit that there is is named: a program's in the section "The programs" """
+    """docs/PROMISES.md names for each public call two wrong programs or more (one at the C door, but for a promise that is another
+    call's), its own and no other call's, each is an edit of its crate, and each edit that there is is named: a program's in the
+    section "The programs" """
     page, faults = promises(tree), []
     for crate in tree.libraries:
         edits = {path.stem for path in crate.glob('must-fail/*.edit')}
         named = {}
         for name in (name for name, function in tree.public.items() if function.crate == crate.name):
             own = page.wrong_programs(name)
-            faults += [f'{name} names {len(set(own))}'] * (len(set(own)) < (1 if crate.name == C_DOOR else 2))
+            faults += [f'{name} names {len(set(own))}'] * (len(set(own)) < least_edits(crate, page.calls.get(name, {})))
             faults += [f'{name} names {edit}, which is not there' for edit in own if edit not in edits]
             faults += [f'{name} names {edit}, and so does {named[edit]}' for edit in own if edit in named]
             named |= {edit: name for edit in own}
@@ -324,45 +334,8 @@ def small_rooms(tree):
             if len(path.read_text(encoding='utf-8').splitlines()) > 400]
 
 
-def short_notes(tree):
-    """no landing note has more than 25 lines"""
-    return [str(path.relative_to(tree.top)) for path in sorted(tree.top.glob('docs/landings/*.md'))
-            if len(path.read_text(encoding='utf-8').splitlines()) > 25]
-
-
-# Words of what is not in the repository, and a name that is no longer used, in upper or lower case.
-FOREIGN = re.compile(r"""
-    \bdesign\.md | \.\./shared | (?<![\w.])/work/ | \bprototyp | \bnative-bench | \binterface\.md | \bfixed\ interface
-    | \bits\ brief\b | \blater\ request | \boutside\ the\ repository | \bopen-points | \bproof-notes | \bthe\ issue\b
-    | \bissue\ names | \bissues\b | \bsessions?\b | \bhelper\ agent | \bdocument\ 90\b | \bc\ face\b
-""", re.X | re.I)
-# What the rule looks through: not what the planted faults write, which must have these words.
-PAGES = ('README.md', 'crates.txt', 'docs/**/*.md', 'include/*.h', 'examples/**/*', 'bench/**/*', 'second/**/*', 'crates/**/*.rt',
-         'crates/**/*.antt', 'crates/**/must-fail/*.edit', '.ci/*')
-SKIPPED = 'target', '__pycache__'
-LINE_BREAK = re.compile(r'[ \t]*\n[ \t]*(?:(?://|--|[#*])[ \t]*)?')
-
-
-def own_words(tree):
-    """no page or source of the repository speaks of what is not in it"""
-    paths = {path for pattern in PAGES for path in tree.top.glob(pattern) if path.is_file() and path.name != 'planted.py'}
-    return [f'{path.relative_to(tree.top)}: {words}' for path in sorted(paths)
-            if not set(SKIPPED) & set(path.relative_to(tree.top).parts) for words in foreign(path, path.stat().st_mtime_ns)]
-
-
-@cache
-def foreign(path, _changed):
-    """The words of a file that are none of the repository's own, in a text with its lines joined, without the comment marks before
-    them, and without the rule's own list; of what is no text, none. A file that has not changed is read once."""
-    try:
-        text = path.read_text(encoding='utf-8').replace(FOREIGN.pattern, '')
-    except UnicodeDecodeError:
-        return ()
-    return tuple(found.group() for found in FOREIGN.finditer(LINE_BREAK.sub(' ', text)))
-
-
 RULES = (layout, no_requires, has_ensures, promised, determined, wrong_programs, telling_edits, one_table, one_version, one_bound,
-         declared, readme, contract_alone, small_rooms, short_notes, own_words)
+         declared, readme, contract_alone, small_rooms, short_notes, own_words, all_there)
 
 
 def broken(rule, tree):

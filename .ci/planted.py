@@ -184,8 +184,10 @@ WRONG_PROGRAMS = [
     fault('picture', Change(PAGE, f'- **Wrong programs**: {BOTH}.', f'- **Worked**: {BOTH}.')),
     fault('picture', Change(PAGE, f'- **Wrong programs**: {BOTH}.', f'### Others\n\n- **Wrong programs**: {BOTH}.')),
     fine(Change(PAGE, BOTH, '`side-to-1025`,\n  `more-levels-taken`')),
-    fault('gong::gong_scan_start names 0', Change(PAGE, '- **Wrong programs**: `scan-sides-exchanged`.\n', ''),
-          gone('crates/gong/must-fail/scan-sides-exchanged.edit')),
+    # at the C door one is enough, and none is needed where the promise is another call's
+    fault('gong::gong_judge names 0', Change(PAGE, '- **Wrong programs**: `ratio-not-written`.\n', ''),
+          gone('crates/gong/must-fail/ratio-not-written.edit')),
+    fine(Change(PAGE, '- **Wrong programs**: `buffers-exchanged`.\n', ''), gone('crates/gong/must-fail/buffers-exchanged.edit')),
     fault('filter/new-one', at_end('crates/filter/must-fail/new-one.edit', 'file: src/lib.rt\n')),
     fault('calls/new-one', at_end('crates/calls/must-fail/new-one.edit', 'file: src/main.rt\n')),
     fault('calls/longer-than-the-space', Change(PAGE, '`longer-than-the-space`', 'another'),
@@ -285,22 +287,28 @@ CONTRACT_ALONE = [
 ]
 
 # Every word of the list, in some place that the rule looks through.
-WORDS = ('See design.md.', 'See ../shared/x.', 'cd /work/main', 'a prototype', 'native-bench', 'interface.md',
-         'A fixed interface', 'as its brief says', 'a later request', 'outside the repository', 'open-points', 'proof-notes',
-         'the issue', 'issue names', 'Issues are', 'this session', 'two sessions', 'a helper agent', 'Document 90', 'the C face')
+WORDS = ('a prototype', 'A fixed interface', 'as its brief says', 'a later request', 'outside the repository', 'the issue', 'Issues are',
+         'this session', 'two sessions', 'a helper', 'Document 90', 'the C face')
 PLACES = (README, PAGE, HEADER, PICTURE, VERDICTS, 'crates.txt', 'docs/landings/new.md', 'examples/c/filter.c', 'bench/README.md',
-          'bench/new/one.py', 'second/rules.py', 'crates/filter/must-fail/zero-padding.edit', 'crates/new/src/main.rt', '.ci/run',
-          '.ci/house_rules.py')
+          'bench/new/one.py', 'second/rules.py', 'crates/filter/must-fail/zero-padding.edit', 'crates/new/src/main.rt', '.ci/run')
+NO_PLACES = '.ci/planted.py', 'bench/target/x.py', 'second/target/new.py', 'docs/drawings/new.svg', 'crates/filter/notes.txt'
 OWN_WORDS = [
     *[fault(README, at_end(README, f'\n{word}\n')) for word in WORDS],
-    *[fault(place, at_end(place, '\n// as in the prototype\n')) for place in PLACES],
+    *[fault(place, at_end(place, f'\n// {WORDS[0]}\n')) for place in PLACES],
     *[fault(PICTURE, at_end(PICTURE, f'\n// the C\n{mark} face\n')) for mark in ('//', '--', '#', ' *', '')],
     # what sounds like one of them, and what is no page
     *[fine(at_end(README, f'\n{word}\n')) for word in (
-        'an obsession', 'the issued numbers', 'tissues', 'target/work/x', 'an interface', 'design', 'a public face',
-        'document 901')],
-    *[fine(at_end(place, '\nthe prototype\n')) for place in (
-        '.ci/planted.py', 'bench/target/x.md', 'second/target/new.py', 'docs/drawings/new.svg', 'crates/filter/notes.txt')],
+        'an obsession', 'the issued numbers', 'tissues', 'an interface', 'in brief', 'a public face', 'document 901')],
+    *[fine(at_end(place, f'\n{WORDS[0]}\n')) for place in NO_PLACES],
+]
+
+OUT = 'nothing.md', '../nothing', '../../x', '/home/me/x', '`/root/x`'
+ALL_THERE = [
+    *[fault(README, at_end(README, f'\nSee {name}.\n')) for name in OUT],
+    *[fault('docs/rules.md', at_end('docs/rules.md', f'\n[there]({name})\n')) for name in ('../crates/nothing', '../../README.md')],
+    *[fault(place, at_end(place, f'\n// {OUT[0]}\n')) for place in PLACES],
+    *[fine(at_end('docs/rules.md', f'\nSee {name}.\n')) for name in ('../second/rules.py', 'numbers.md', 'target/home/x', 'x/../y')],
+    *[fine(at_end(place, f'\n{OUT[0]}\n')) for place in NO_PLACES],
 ]
 
 PLANTED = {
@@ -319,6 +327,7 @@ PLANTED = {
     'readme': READ_ME,
     'contract_alone': CONTRACT_ALONE,
     'own_words': OWN_WORDS,
+    'all_there': ALL_THERE,
     'small_rooms': [fault(PICTURE, at_end(PICTURE, '//\n' * 400)), fault(VERDICTS, at_end(VERDICTS, '--\n' * 400))],
     'short_notes': [fault('landings/filter.md', at_end('docs/landings/filter.md', '\n' * 20)),
                     fault('landings/new.md', at_end('docs/landings/new.md', 'A line.\n' * 26)),

@@ -16,13 +16,13 @@ use Rattle.arithmetic.specs.declared.Fraction.{Fraction}
 use Rattle.arithmetic.specs.Fractions.{fraction, NotMore}
 use Rattle.judge.specs.declared.Verdict.{Verdict}
 use Rattle.judge.specs.Extremes.{bright, dark}
-use Rattle.judge.specs.Judge.{InRange, BrightInRange, DarkInRange, Reaches, leftOf, rightOf, RatioIs, refused, JudgeIs}
+use Rattle.judge.specs.Judge.{InRange, BrightInRange, DarkInRange, Reaches, RatioIs, refused, JudgeIs}
 use Rattle.judge.specs.Measure.{Judged, Measurement, Measured}
 use Rattle.judge.specs.AnnexA.{plus, times, squared, span, deviationSquared, AverageInRange, RatioFrom, RatioTen, Unfit, Discarded, Exactly}
 use Rattle.judge.proofs.Ratios.{reaches-falls}
 
 -- "So q is the ratio in hundredths": the document's inequality is the annex's for q/100
-pub reaches-is : (N : ℕ) (M m : Eighths) (D q : ℕ) → Exactly (Reaches (leftOf D) (rightOf N (M .0 - m .0)) q) (RatioFrom N M m D (fraction q 100))
+pub reaches-is : (N : ℕ) (M m : Eighths) (D q : ℕ) → Exactly (Reaches N (M .0 - m .0) D q) (RatioFrom N M m D (fraction q 100))
 reaches-is N M m D q = (λ h. omega (arith, h), λ h. omega (arith, h))
 
 -- "rounded down": the ratio is q hundredths or more, and not q + 1; or it is below 0, and q is 0
@@ -32,7 +32,7 @@ rounded-down N M m D q (inl g) = inl (reaches-is N M m D q .0 (g .holds), λ t. 
 rounded-down N M m D q (inr n) = inr (λ k t. n .0 k (reaches-is N M m D k .1 t), n .1)
 
 -- and at 1,000 it is the annex's for 10
-ten-reaches : (N : ℕ) (M m : Eighths) (D : ℕ) → Exactly (Reaches (leftOf D) (rightOf N (M .0 - m .0)) 1000) (RatioTen N M m D)
+ten-reaches : (N : ℕ) (M m : Eighths) (D : ℕ) → Exactly (Reaches N (M .0 - m .0) D 1000) (RatioTen N M m D)
 ten-reaches N M m D = (λ h. omega (arith, h), λ h. omega (arith, h))
 
 -- Annex A's deviation is a root, and for most pictures no fraction. The annex asks whether r + 1.38 deviations are at most
@@ -72,11 +72,11 @@ dark-is m = (λ p. (omega (arith, p), omega (arith, p)), λ p. (omega (arith, p)
 pub ten-is : (N : ℕ) (M m : Eighths) (D q : ℕ) → RatioIs N (M .0 - m .0) D q → Exactly (1000 ≤ q) (RatioTen N M m D)
 ten-is N M m D q r = (λ p. ten-reaches N M m D .0 (to r p), λ t. of r (ten-reaches N M m D .1 t))
   where
-    to : RatioIs N (M .0 - m .0) D q → 1000 ≤ q → Reaches (leftOf D) (rightOf N (M .0 - m .0)) 1000
-    to (inl g) p = reaches-falls (leftOf D) (rightOf N (M .0 - m .0)) 1000 q p (g .holds)
+    to : RatioIs N (M .0 - m .0) D q → 1000 ≤ q → Reaches N (M .0 - m .0) D 1000
+    to (inl g) p = reaches-falls N (M .0 - m .0) D 1000 q p (g .holds)
     to (inr n) p = absurd (omega (arith, n .1))
 
-    of : RatioIs N (M .0 - m .0) D q → Reaches (leftOf D) (rightOf N (M .0 - m .0)) 1000 → 1000 ≤ q
+    of : RatioIs N (M .0 - m .0) D q → Reaches N (M .0 - m .0) D 1000 → 1000 ≤ q
     of (inl g) h = g .most 1000 h
     of (inr n) h = absurd (n .0 1000 h)
 

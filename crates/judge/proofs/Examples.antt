@@ -14,7 +14,7 @@ use Rattle.arithmetic.proofs.Computed.{when, unless, EveryRow, every-row}
 use Rattle.units.specs.Units.{eighths}
 use Rattle.judge.specs.declared.Verdict.{Verdict}
 use Rattle.judge.specs.Extremes.{maximum, minimum, tile, overTiles}
-use Rattle.judge.specs.Judge.{InRange, Rated, verdict, refused, JudgeIs, leftOf, rightOf}
+use Rattle.judge.specs.Judge.{InRange, Rated, verdict, refused, JudgeIs}
 use Rattle.judge.proofs.Ratios.{reaches-falls}
 use Rattle.judge.proofs.Outcomes.{one-judge}
 
@@ -42,15 +42,15 @@ module _ (N M m D n q : ℕ) where
   back k = Option·map (λ p i. verdict (p .0 i) (p .1 i)) (when (Dec·and (ℕ-discrete n k) (ℕ-discrete q 0)))
 
   abbrev left : ℕ → ℕ
-  left k = (k + 138) * (k + 138) * leftOf D
+  left k = (k + 138) * (k + 138) * 256 * D
 
   abbrev right : ℕ
-  right = rightOf N (M - m)
+  right = 10000 * ((M - m) * (M - m)) * (N * N)
 
   rated : Option (Rated N (eighths M) (eighths m) D (verdict n q))
   rated = elim (Dec·and (decLe (left q) right) (decLt right (left (q + 1)))) [
     | yes p ↦
-        Option·map (λ number. record { ratio = inl (by-neighbours (reaches-falls (leftOf D) right) (p .0) (not-le-of-lt (p .1))); number = number })
+        Option·map (λ number. record { ratio = inl (by-neighbours (reaches-falls N (M - m) D) (p .0) (not-le-of-lt (p .1))); number = number })
         (unless (decLe 1000 q) (when (ℕ-discrete n 9)) (when (ℕ-discrete n 0)))
     | no f ↦ none
   ]

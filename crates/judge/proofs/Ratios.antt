@@ -11,7 +11,7 @@ use borrow.Author.Tests.{leb-true, leb-false}
 use Rattle.arithmetic.specs.Greatest.{Greatest, Between}
 use Rattle.arithmetic.proofs.Order.{le-or-lt, of-squares}
 use Rattle.arithmetic.proofs.Greatest.{Falling, one-greatest, reworded}
-use Rattle.judge.specs.Judge.{Reaches, leftOf, rightOf, RatioIs}
+use Rattle.judge.specs.Judge.{Reaches, RatioIs}
 use Rattle.judge.proofs.Digits.{product-room}
 
 -- ---- comparing the two sides: the left one times q + 138, once and twice, has room in ten digits
@@ -80,9 +80,13 @@ module _ {d power rest : ℕ} (q : Quartered d power rest) where
       (q .power-some, power-most h, square-most, omega (arith, mul-le-mul-left (power * power) last, q .high))
 
 -- ---- the condition
--- what a number reaches, each smaller one does
-pub reaches-falls : (left right : ℕ) → Falling (Reaches left right)
-reaches-falls left right j k le h =
+-- what the code compares: the document's inequality, of the two sides as they stand in the code
+abbrev pub Compared : ℕ → ℕ → ℕ → Type 0
+Compared left right q = (q + 138) * (q + 138) * left ≤ right
+
+-- what holds of a number, holds of each smaller one
+pub compared-falls : (left right : ℕ) → Falling (Compared left right)
+compared-falls left right j k le h =
     let more : j + 138 ≤ k + 138 = omega arith in
     le-trans (mul-le-mul-right left (mul-le-mul more more)) h
 
@@ -99,7 +103,7 @@ pub end-most : {n : ℕ} (d : ℕ) → n ≤ 3422552064000 → n / d - 137 ≤ 2
 end-most {n} d h = omega (arith, div-le-self n d)
 
 -- the product's square is the right side of the document
-product-squared : (N span : ℕ) → product N span * product N span ≡ rightOf N span
+product-squared : (N span : ℕ) → product N span * product N span ≡ 10_000 * (span * span) * (N * N)
 product-squared N span = omega arith
 
 -- the two sides as the code has them: 256·D, and the product's square
@@ -113,64 +117,68 @@ module _ {N span D left right : ℕ} (sides : Sides N span D left right) where
   left-most h = omega (arith, sides .left-is)
 
   -- they are the document's
-  document-left : left ≡ leftOf D
-  document-left = sides .left-is ∙ omega arith
+  document-left : (n : ℕ) → n * left ≡ n * 256 * D
+  document-left n = rw (sides .left-is) (omega arith)
 
-  document-right : right ≡ rightOf N span
+  document-right : right ≡ 10_000 * (span * span) * (N * N)
   document-right = sides .right-is ∙ product-squared N span
 
-  times-left : (n : ℕ) → n * left ≡ n * 256 * D
-  times-left n = rw (sides .left-is) (omega arith)
-
   -- so comparing them says the same
-  to-document : (q : ℕ) → Reaches left right q → Reaches (leftOf D) (rightOf N span) q
-  to-document q h = rw (← document-left, ← document-right) h
+  to-document : (q : ℕ) → Compared left right q → Reaches N span D q
+  to-document q h = rw (← document-left ((q + 138) * (q + 138)), ← document-right) h
 
-  of-document : (q : ℕ) → Reaches (leftOf D) (rightOf N span) q → Reaches left right q
-  of-document q h = rw (document-left, document-right) h
+  of-document : (q : ℕ) → Reaches N span D q → Compared left right q
+  of-document q h = rw (document-left ((q + 138) * (q + 138)), document-right) h
 
   -- 16·p is at most the root of the left side, and 32·p is above it
   module _ {p : ℕ} (root : BelowRoot D p) where
     -- so a number that reaches is, with 138, at most the product over 16·p
-    at-most-16th : (k : ℕ) → Reaches left right k → k + 138 ≤ product N span / (16 * p)
+    at-most-16th : (k : ℕ) → Compared left right k → k + 138 ≤ product N span / (16 * p)
     at-most-16th k h =
         let x = k + 138 in
         let some : 0 < 16 * p = omega (arith, root .0) in
-        le-div-iff-mul-le some .1 (of-squares (omega (arith, mul-le-mul-left (x * x * 256) (root .2), times-left (x * x), h, sides .right-is)))
+        le-div-iff-mul-le some .1 (of-squares (omega (arith, mul-le-mul-left (x * x * 256) (root .2), document-left (x * x), h, sides .right-is)))
 
     -- and a number that is, with 138, at most the product over 32·p reaches
-    reaches-32nd : (k : ℕ) → k + 138 ≤ product N span / (32 * p) → Reaches left right k
+    reaches-32nd : (k : ℕ) → k + 138 ≤ product N span / (32 * p) → Compared left right k
     reaches-32nd k h =
         let x = k + 138 in
         let some : 0 < 32 * p = omega (arith, root .0) in
         let within : x * (32 * p) ≤ product N span = le-div-iff-mul-le some .0 h in
-        omega (arith, mul-le-mul within within, mul-le-mul-left (x * x * 256) (root .3), times-left (x * x), sides .right-is)
+        omega (arith, mul-le-mul within within, mul-le-mul-left (x * x * 256) (root .3), document-left (x * x), sides .right-is)
 
     -- where 0 reaches, the product over 16·p is at least 138
-    pub quotient-least : Reaches left right 0 → 138 ≤ product N span / (16 * p)
+    pub quotient-least : Compared left right 0 → 138 ≤ product N span / (16 * p)
     quotient-least = at-most-16th 0
 
     -- and halving starts from the product over 32·p to that over 16·p, the one less 138 and the other less 137
-    pub starts : {lo : ℕ} → lo ≡ product N span / (32 * p) - 138 → Reaches left right 0
-        → Between (Reaches left right) lo (product N span / (16 * p) - 137)
+    pub starts : {lo : ℕ} → lo ≡ product N span / (32 * p) - 138 → Compared left right 0
+        → Between (Compared left right) lo (product N span / (16 * p) - 137)
     starts {lo} e at-0 =
         record {
           low = ⊎-elim
-              (λ le. reaches-falls left right lo 0 (omega (arith, le)) at-0)
+              (λ le. compared-falls left right lo 0 (omega (arith, le)) at-0)
               (λ lt. reaches-32nd lo (omega (arith, lt)))
               (le-or-lt (product N span / (32 * p)) 138);
-          high = λ (k : ℕ) (h : Reaches left right k). omega (arith, at-most-16th k h);
+          high = λ (k : ℕ) (h : Compared left right k). omega (arith, at-most-16th k h);
         }
 
   -- what halving finds is the ratio
-  pub found : {q : ℕ} → Greatest (Reaches left right) q → RatioIs N span D q
+  pub found : {q : ℕ} → Greatest (Compared left right) q → RatioIs N span D q
   found g = inl (reworded to-document of-document g)
 
   -- where 0 does not reach, there is none
-  pub none-found : ¬ Reaches left right 0 → RatioIs N span D 0
-  none-found past = inr ((λ (k : ℕ) h. past (reaches-falls left right 0 k zero-le (of-document k h))), refl)
+  pub none-found : ¬ Compared left right 0 → RatioIs N span D 0
+  none-found past = inr ((λ (k : ℕ) h. past (compared-falls left right 0 k zero-le (of-document k h))), refl)
 
 -- ---- for every N, M − m and D
+-- where the ratio is q hundredths or more, it is so for each smaller q
+pub reaches-falls : (N span D : ℕ) → Falling (Reaches N span D)
+reaches-falls N span D j k le h = to-document sides j (compared-falls (D * 256) (product N span * product N span) j k le (of-document sides k h))
+  where
+    sides : Sides N span D (D * 256) (product N span * product N span)
+    sides = record { left-is = refl; right-is = refl }
+
 -- any two numbers that are the ratio are equal
 pub one-ratio : (N span D q k : ℕ) → RatioIs N span D q → RatioIs N span D k → q ≡ k
 one-ratio N span D q k (inl a) (inl b) = one-greatest a b

@@ -22,21 +22,13 @@ BrightInRange M = (21_760 ≤ M .0) × (M .0 ≤ 31_360)
 abbrev pub DarkInRange : Eighths → Type 0
 DarkInRange m = (1_280 ≤ m .0) × (m .0 ≤ 10_240)
 
--- "(q+138)²·256·D ≤ 10,000·(M−m)²·N²": the ratio is q hundredths or more, where left is 256·D and right 10,000·(M−m)²·N²
-abbrev pub Reaches : ℕ → ℕ → ℕ → Type 0
-Reaches left right q = (q + 138) * (q + 138) * left ≤ right
-
--- these two, with M − m as `span`
-abbrev pub leftOf : ℕ → ℕ
-leftOf D = 256 * D
-
-abbrev pub rightOf : ℕ → ℕ → ℕ
-rightOf N span = 10_000 * (span * span) * (N * N)
+-- "(q+138)²·256·D ≤ 10,000·(M−m)²·N²", with M − m as `span`: the ratio is q hundredths or more
+abbrev pub Reaches : ℕ → ℕ → ℕ → ℕ → Type 0
+Reaches N span D q = (q + 138) * (q + 138) * 256 * D ≤ 10_000 * (span * span) * (N * N)
 
 -- "q, the greatest whole number from 0 with" that, "and 0 where there is none"
 abbrev pub RatioIs : ℕ → ℕ → ℕ → ℕ → Type 0
-RatioIs N span D q =
-    Greatest (Reaches (leftOf D) (rightOf N span)) q ⊎ (((k : ℕ) → ¬ Reaches (leftOf D) (rightOf N span) k) × (q ≡ 0))
+RatioIs N span D q = Greatest (Reaches N span D) q ⊎ (((k : ℕ) → ¬ Reaches N span D k) × (q ≡ 0))
 
 -- "9 | q < 1,000", "0 | done"; and "9 also returns q". (M and m are in range here, so that M − m is at least 11,520.)
 pub record Rated (N : ℕ) (M m : Eighths) (D : ℕ) (v : Verdict) : Type 0 where

@@ -4,7 +4,7 @@ ghost use mathlib.Core.Path.{_≡_};
 ghost use Prim.Native.Nat.{_+_, _-_, _*_, _^_, _<_, _≤_};
 ghost use Rattle.arithmetic.specs.Greatest.{Greatest, Between};
 ghost use lib.Dec.{leb};
-ghost use Rattle.judge.specs.Judge.{Reaches, RatioIs};
+ghost use Rattle.judge.specs.Judge.{RatioIs};
 ghost use Rattle.judge.specs.Wide.{value};
 use crate::wide;
 
@@ -51,8 +51,8 @@ fn less_138(n: u64) -> u64
 // The greatest q with (q+138)²·left at most right, which lies from lo to below hi: recursive halving
 // of that interval, whose width falls.
 fn halve(left: [u16; 10], right: [u16; 10], lo: u64, hi: u64) -> u64
-    requires { ⌜ Between (Reaches (value left 10) (value right 10)) lo hi × (hi ≤ 2 ^ 42) × (value left 10 ≤ 2 ^ 70) ⌝ }
-    ensures { λ r. ⌜ Greatest (Reaches (value left 10) (value right 10)) r ⌝ }
+    requires { ⌜ Between (λ q. (q + 138) * (q + 138) * value left 10 ≤ value right 10) lo hi × (hi ≤ 2 ^ 42) × (value left 10 ≤ 2 ^ 70) ⌝ }
+    ensures { λ r. ⌜ Greatest (λ q. (q + 138) * (q + 138) * value left 10 ≤ value right 10) r ⌝ }
 {
     if hi - lo <= 1 {
         return lo;

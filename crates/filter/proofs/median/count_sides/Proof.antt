@@ -1,4 +1,4 @@
--- `filter::median::count_sides` meets its contract: at place k both counts are those among the first k (`Counted`). Assumes nothing.
+-- `filter::median::count_sides` meets its contract: at place k both counts are those among the first k (`SidesAre`). Assumes nothing.
 use mathlib.Core.Path.{_≡_}
 use mathlib.Core.List.{List}
 use Prim.Native.Nat.{ℕ, _-_, _≤_}

@@ -5,7 +5,7 @@ use native.Mathlib.Omega.{arith}
 use borrow.Fn.Kinds.{In}
 use borrow.Fn.PlainCycle.{Measures, is, falls, and}
 use Rattle.arithmetic.proofs.Greatest.{not-empty, upper-half, lower-half, narrowed}
-use Rattle.judge.proofs.Ratios.{answered-yes, answered-no, reaches-falls}
+use Rattle.judge.proofs.Ratios.{answered-yes, answered-no, compared-falls}
 use Rattle.judge.proofs.ratio.halve.Reads as halve
 use Rattle.judge.proofs.ratio.halve.Kinds as halve-kinds
 use Rattle.judge.proofs.ratio.+halve.Lts-halve as halve-lts
@@ -50,7 +50,7 @@ module _ (t : ℕ) where
   halve-halve-requires-2 : halve-lts.Need-halve-requires-2 (called t) (halve-at t) halve.Post
   halve-halve-requires-2 c κs =
       let p = c .before .before .before .pre .1 in
-      (omega arith, (lower-half (p .0) (reaches-falls _ _) (answered-no _ _ (c .before .reaches .ensures) (c .if2 .left)), omega arith, p .2))
+      (omega arith, (lower-half (p .0) (compared-falls _ _) (answered-no _ _ (c .before .reaches .ensures) (c .if2 .left)), omega arith, p .2))
 
   halve-returns-2 : halve-lts.Need-returns-2 (called t) (halve-at t) halve.Post
   halve-returns-2 c = c .halve .ensures

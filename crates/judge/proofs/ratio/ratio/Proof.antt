@@ -7,9 +7,8 @@ use lib.Dec.{lit<}
 use borrow.Author.Needs.{needs}
 use borrow.Author.Tests.{not-true, not-false}
 use Rattle.judge.specs.Wide.{value}
-use Rattle.judge.specs.Judge.{Reaches}
 use Rattle.judge.proofs.Digits.{product-room}
-use Rattle.judge.proofs.Ratios.{answered-yes, answered-no, product, product-most, end-most, Sides, left-most, quotient-least, starts, found, none-found}
+use Rattle.judge.proofs.Ratios.{answered-yes, answered-no, Compared, product, product-most, end-most, Sides, left-most, quotient-least, starts, found, none-found}
 use Rattle.judge.proofs.ratio.ratio.Statement.{statement}
 use Rattle.judge.proofs.ratio.ratio.Tie as tie
 
@@ -33,7 +32,7 @@ sides c =
     record { left-is = rw (← left .before .of .ensures) (left .times .ensures); right-is = rw (c .before .of2 .ensures) at (c .times2 .ensures) }
 
 -- past the test, 0 reaches
-zero-reaches : (c : tie.Else1) → let s = c .before .before in Reaches (left-value s) (right-value s) 0
+zero-reaches : (c : tie.Else1) → let s = c .before .before in Compared (left-value s) (right-value s) 0
 zero-reaches c = answered-yes _ _ (c .before .reaches .ensures) (not-false _ (c .if1 .left))
 
 mul-product : tie.Need-mul-product
