@@ -219,13 +219,13 @@ ONE_TABLE = [
         'define GONG_NUMBERS 23\n#define GONG_NUMBERS 23')],
 ]
 
-VERSION = 'define GONG_VERSION_TEXT "0.1.0"'
+VERSION = 'define GONG_VERSION_TEXT "0.2.0"'
 ONE_VERSION = [
     *[fault('the text', change) for change in instead_of(
-        HEADER, VERSION, 'define GONG_VERSION_TEXT "0.1.1"', 'define GONG_VERSION_TEXT "0.1"', 'define GONG_VERSION_TEXT 0.1.0',
-        'define GONG_VERSION "0.1.0"', f'{VERSION}\n#{VERSION}')],
+        HEADER, VERSION, 'define GONG_VERSION_TEXT "0.2.1"', 'define GONG_VERSION_TEXT "0.2"', 'define GONG_VERSION_TEXT 0.2.0',
+        'define GONG_VERSION "0.2.0"', f'{VERSION}\n#{VERSION}')],
     *[fault('the text', Change(HEADER, f'define GONG_VERSION_{part} {number}', f'define GONG_VERSION_{part} {number}1'))
-      for part, number in (('MAJOR', 0), ('MINOR', 1), ('PATCH', 0))],
+      for part, number in (('MAJOR', 0), ('MINOR', 2), ('PATCH', 0))],
     fault('the text', Change(HEADER, 'define GONG_VERSION_MINOR ', 'define GONG_VERSION_MIDDLE ')),
     fine(Change(HEADER, VERSION, f'{VERSION} /* of the numbers above */')),
 ]

@@ -89,13 +89,14 @@ static const uint8_t *some_squares(size_t width, size_t height)
     return levels;
 }
 
-/* 1 to 4, and sides whose product wraps. */
+/* 1 to 5, and sides whose product wraps. */
 static void compare_refused(int measured)
 {
     static const size_t sizes[][5] = {/* levels, width, height, output, work */
-                                      {0, 0, 4, 16, 16},    {0, 4, 0, 16, 16},  {16, 1025, 4, 16, 16},
-                                      {16, 4, 1025, 16, 16}, {15, 4, 4, 15, 15}, {17, 4, 4, 17, 17},
-                                      {16, 4, 4, 15, 15},   {16, 4, 4, 16, 15}, {16, 4, (size_t)1 << 62, 16, 16}};
+                                      {0, 0, 8, 64, 64},    {0, 8, 0, 64, 64},  {64, 1025, 8, 64, 64},
+                                      {64, 8, 1025, 64, 64}, {63, 8, 8, 63, 63}, {65, 8, 8, 65, 65},
+                                      {64, 8, 8, 63, 63},   {64, 8, 8, 64, 63}, {64, 8, (size_t)1 << 61, 64, 64},
+                                      {80, 8, 10, 80, 80},  {80, 10, 8, 80, 80}, {32, 4, 8, 32, 32}, {32, 8, 4, 32, 32}};
 
     for (size_t k = 0; k < sizeof sizes / sizeof *sizes; k++)
         compare_lent(measured, &(struct lent){random_picture, sizes[k][0], sizes[k][1], sizes[k][2], sizes[k][3], sizes[k][4]});
@@ -126,12 +127,13 @@ static void compare_measure(void)
 {
     compare_picture(1, random_picture, SIDE, SIDE, 0);
     compare_picture(1, discs_picture, SIDE, SIDE, 0);
+    for (size_t from = 0; from < FULL; from += 64 * 64) compare_picture(1, discs_picture + from, 64, 64, 0); /* as they are timed */
     for (int k = 0; k < 300; k++) {
-        size_t width = 4 * (1 + below(16)), height = 4 * (1 + below(16));
+        size_t width = 4 * (2 + below(15)), height = 4 * (2 + below(15));
 
         compare_picture(1, some_squares(width, height), width, height, below(4));
     }
-    for (size_t width = 1; width <= 8; width++) /* 5, but for four of them */
+    for (size_t width = 1; width <= 8; width++) /* 5, but for the last of them */
         for (size_t height = 1; height <= 8; height++) compare_picture(1, some_squares(width, height), width, height, 0);
     compare_refused(1);
 }

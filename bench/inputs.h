@@ -10,7 +10,7 @@ enum {
     FULL = SIDE * SIDE, /* their pixels */
     MANY = 1024,        /* inputs of a call on numbers */
     HISTOGRAMS = 64,    /* inputs of the two means: few, for each takes a kilobyte */
-    SMALL_WIDTH = 9,    /* of the picture that shows a peer's rule at the rim */
+    SMALL_WIDTH = 9,    /* of the picture that shows a peer's rule at the edge */
     SMALL_HEIGHT = 7
 };
 

@@ -71,12 +71,17 @@ static void scan_1024_by_8(const struct library *library) { scan_squares(library
 static void scan_64_by_1(const struct library *library) { scan_squares(library, 64, 1); }
 static void scan_64_by_8(const struct library *library) { scan_squares(library, 64, 8); }
 
-static void measure_discs(const struct library *library)
+static void measure_squares(const struct library *library, size_t side)
 {
+    size_t pixels = side * side;
     uint64_t ratio;
 
-    library->measure(discs_picture, FULL, SIDE, SIDE, output, FULL, work, FULL, &ratio);
+    for (size_t from = 0; from < FULL; from += pixels)
+        library->measure(discs_picture + from, pixels, side, side, output, pixels, work, pixels, &ratio);
 }
+
+static void measure_discs(const struct library *library) { measure_squares(library, SIDE); }
+static void measure_64(const struct library *library) { measure_squares(library, 64); }
 
 static void judge_many(const struct library *library)
 {
@@ -136,6 +141,7 @@ static const struct row {
     {"scan", "64-by-1", "pixel and pass", scan_64_by_1, FULL * PASSES},
     {"scan", "64-by-8", "pixel and pass", scan_64_by_8, FULL * PASSES},
     {"measure", "discs", "pixel", measure_discs, FULL},
+    {"measure", "64", "pixel", measure_64, FULL},
     {"judge", "1,024-pictures", "call", judge_many, AGAIN * MANY},
     {"count", "discs", "value", count_discs, FULL},
     {"two_means", "64-histograms", "call", means_many, AGAIN * HISTOGRAMS},

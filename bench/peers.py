@@ -14,7 +14,7 @@ import sys
 import time
 from pathlib import Path
 
-import rim
+import edge
 
 TURN = 20_000_000  # ns
 
@@ -29,7 +29,7 @@ class Function:
         """Read once. 16 bits: eighths, the range of the library's third pass, but for the small one."""
         import numpy
         if path not in self.pictures:
-            levels, width, height = rim.read_picture(path)
+            levels, width, height = edge.read_picture(path)
             kind = numpy.uint16 if self.wide else numpy.uint8
             scale = 8 if self.wide and path.stem != 'small' else 1
             self.pictures[path] = numpy.frombuffer(levels, numpy.uint8).reshape(height, width).astype(kind) * kind(scale)
@@ -68,7 +68,7 @@ class Gmic:
     def time(self, path):
         """ns a pixel. Few passes are timed once, the least of seven: were they timed in each turn, the turn in which they
         took too long would be the one that counts."""
-        _, width, height = rim.read_picture(path)
+        _, width, height = edge.read_picture(path)
         if path not in self.few:
             self.few[path] = min(self.seconds(path, self.FEW) for _ in range(7))
         more = self.seconds(path, self.MANY) - self.few[path]

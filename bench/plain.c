@@ -122,18 +122,21 @@ static void extremes(const uint16_t *filtered, size_t width, size_t height, uint
     }
 }
 
-/* D = N (sum of d^2) - (sum of d)^2: below 2^62, so nothing wraps. */
-static uint64_t spread_of(const uint8_t *levels, const uint16_t *filtered, size_t count)
+/* D = N (sum of d^2) - (sum of d)^2, over the N pixels that count, all but three rows and columns on each side:
+ * below 2^62, so nothing wraps. */
+static uint64_t spread_of(const uint8_t *levels, const uint16_t *filtered, size_t width, size_t height)
 {
-    int64_t sum = 0, squares = 0;
+    int64_t count = 0, sum = 0, squares = 0;
 
-    for (size_t k = 0; k < count; k++) {
-        int64_t d = 8 * (int64_t)levels[k] - (int64_t)filtered[k];
+    for (size_t y = 3; y < height - 3; y++)
+        for (size_t x = 3; x < width - 3; x++) {
+            int64_t d = 8 * (int64_t)levels[y * width + x] - (int64_t)filtered[y * width + x];
 
-        sum += d;
-        squares += d * d;
-    }
-    return (uint64_t)((int64_t)count * squares - sum * sum);
+            count++;
+            sum += d;
+            squares += d * d;
+        }
+    return (uint64_t)(count * squares - sum * sum);
 }
 
 static uint8_t measure(const uint8_t *levels, size_t levels_len, size_t width, size_t height, uint16_t *output,
@@ -144,10 +147,10 @@ static uint8_t measure(const uint8_t *levels, size_t levels_len, size_t width, s
 
     *ratio = 0;
     if (number) return number;
-    if (width % 4 || height % 4) return 5;
+    if (width % 4 || height % 4 || width < 8 || height < 8) return 5;
     filter(levels, levels_len, width, height, output, output_len, work, work_len);
     extremes(output, width, height, &bright, &dark);
-    return judge(levels_len, bright, dark, spread_of(levels, output, levels_len), ratio);
+    return judge((width - 6) * (height - 6), bright, dark, spread_of(levels, output, width, height), ratio);
 }
 
 static uint8_t count(const uint16_t *values, size_t values_len, uint32_t *histogram, size_t histogram_len)

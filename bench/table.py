@@ -28,12 +28,12 @@ def figure(value):
 
 def show_pictures(rows):
     """The median filter on the large pictures: everyone."""
-    print(f'{"":44}{"random":>8}{"ratio":>8}{"smooth":>10}{"ratio":>8}   at the rim')
+    print(f'{"":44}{"random":>8}{"ratio":>8}{"smooth":>10}{"ratio":>8}   at the edge')
     full = [row for row in rows if row.call == 'filter' and row.given in ('random', 'smooth')]
     for name in dict.fromkeys(row.name for row in full):
         both = sorted((row for row in full if row.name == name), key=lambda row: row.given)
         cells = [figure(value) for row in both for value in (row.least, ratio(rows, row))]
-        print(f'{name:44}{cells[0]:>8}{cells[1]:>8}{cells[2]:>10}{cells[3]:>8}   {both[0].rim or "our rule"}')
+        print(f'{name:44}{cells[0]:>8}{cells[1]:>8}{cells[2]:>10}{cells[3]:>8}   {both[0].edge or "our rule"}')
 
 
 def show_pairs(rows):
@@ -41,7 +41,8 @@ def show_pairs(rows):
     print(f'{"":44}{"gong":>8}{"plain C":>10}{"ratio":>8}')
     for row in rows:
         if row.name == 'plain C':
-            name = f'filter, {row.given} × {row.given}' if row.call == 'filter' else f'{row.call}, {row.given.replace("-", " ")}'
+            given = f'{row.given} × {row.given}' if row.given.isdigit() else row.given.replace('-', ' ')
+            name = f'{row.call}, {given}'
             times = f'{figure(ours(rows, row).least):>8}{figure(row.least):>10}'
             print(f'{name + ", a " + row.unit:44}{times}{figure(ratio(rows, row)):>8}')
 

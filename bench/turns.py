@@ -8,7 +8,7 @@ import subprocess
 from dataclasses import dataclass, field
 from pathlib import Path
 
-import rim
+import edge
 
 # What each peer is called: its word for peers.py, and its Debian packages.
 PEERS = {'OpenCV': ('opencv', 'python3-opencv'), 'SciPy': ('scipy', 'python3-scipy'),
@@ -67,7 +67,7 @@ class Row:
     name: str
     worker: Worker
     request: str
-    rim: str = ''
+    edge: str = ''
     times: list = field(default_factory=list)
 
     @property
@@ -143,7 +143,7 @@ def peer_rows(words, folder):
     try:
         while line := worker.read():
             key, name = line.split('\t')
-            rule = rim.rule(folder / 'small.pgm', [float(value) for value in worker.ask(f'{key} small').split()])
+            rule = edge.rule(folder / 'small.pgm', [float(value) for value in worker.ask(f'{key} small').split()])
             for given in ('random', 'smooth'):
                 rows.append(Row('filter', given, 'pixel and pass', name, worker, f'{key} {given}', rule))
     except Ended:

@@ -35,12 +35,14 @@
  * UNITS         The unit stands at each parameter. Sixteenths of a pixel, picometres and eighths of
  *               a level are kept apart inside the library; C cannot, so mind which you pass.
  *
- * N, M, m, D    A picture is judged by four numbers. N is its number of pixels. The filtered picture is
- *               cut into sixteen tiles, four across and four down: M (bright) is the sum of the tiles'
- *               maxima and m (dark) the sum of their minima, in eighths of a level; so an average of a
- *               levels is a sum of 128 a. D (spread) says how noisy it is: with d being 8 times a pixel's
- *               level less its filtered eighths, D = N (sum of d^2) - (sum of d)^2, and the deviation of
- *               the noise, in levels, is the square root of D, divided by 8 N.
+ * N, M, m, D    A picture is judged by four numbers. The filtered picture is cut into sixteen tiles, four
+ *               across and four down: M (bright) is the sum of the tiles' maxima and m (dark) the sum of
+ *               their minima, in eighths of a level; so an average of a levels is a sum of 128 a. D
+ *               (spread) says how noisy it is. For the noise the three outermost rows and columns on each
+ *               side are left out, since a block of the filter is lopsided there: N is the number of the
+ *               other pixels, (width - 6) (height - 6). With d being 8 times the level of such a pixel less
+ *               its filtered eighths, D = N (sum of d^2) - (sum of d)^2, and the deviation of the noise,
+ *               in levels, is the square root of D, divided by 8 N.
  *
  * EXAMPLE       (with <stdio.h> and <inttypes.h>)
  *               static const char *const texts[GONG_NUMBERS] = GONG_TEXTS;
@@ -62,10 +64,10 @@ extern "C" {
 #endif
 
 #define GONG_VERSION_MAJOR 0
-#define GONG_VERSION_MINOR 1
+#define GONG_VERSION_MINOR 2
 #define GONG_VERSION_PATCH 0
 #define GONG_VERSION (10000 * GONG_VERSION_MAJOR + 100 * GONG_VERSION_MINOR + GONG_VERSION_PATCH)
-#define GONG_VERSION_TEXT "0.1.0"
+#define GONG_VERSION_TEXT "0.2.0"
 
 /* Bounds and units that a caller would otherwise have to type. */
 #define GONG_MOST_SIDE 1024        /* the longest side of a picture, in pixels                  */
@@ -83,7 +85,7 @@ enum gong_number {
     GONG_SHORT_OUTPUT = 3,        /* output shorter than width times height, or a scan's rows due;
                                      nothing written                                                      */
     GONG_SHORT_WORK = 4,          /* work buffer shorter than width times height; nothing written         */
-    GONG_SIDE_NOT_BY_FOUR = 5,    /* measuring, a side no multiple of 4; nothing written                  */
+    GONG_SIDE_NOT_BY_FOUR = 5,    /* measuring, a side no multiple of 4, or below 8; nothing written      */
     GONG_BRIGHT_OUT_OF_RANGE = 6, /* M outside 21,760..31,360; buffers filtered                           */
     GONG_DARK_OUT_OF_RANGE = 7,   /* m outside 1,280..10,240; buffers filtered                            */
     GONG_NO_NOISE = 8,            /* D is 0; buffers filtered                                             */
@@ -111,7 +113,7 @@ enum gong_number {
         "levels lent are not width times height",                                                         \
         "output too short",                                                                               \
         "work buffer too short",                                                                          \
-        "a side is no multiple of 4",                                                                     \
+        "a side is no multiple of 4, or below 8",                                                         \
         "bright parts out of range",                                                                      \
         "dark parts out of range",                                                                        \
         "no noise",                                                                                       \
@@ -199,20 +201,22 @@ uint8_t gong_scan_rows(uint16_t *held, size_t held_len, const uint8_t *levels, s
 uint8_t gong_scan_end(uint16_t *held, size_t held_len, uint16_t *output, size_t output_len, uint64_t *rows);
 
 /* Whether a picture may be measured: it is filtered, and judged by what came of it.
- *   levels, width, height, output, work   as for gong_filter; width and height are multiples of 4
+ *   levels, width, height, output, work   as for gong_filter; width and height are multiples of 4, from
+ *            8 on
  *   ratio    receives the ratio of contrast to noise in hundredths, rounded down (0 where it is below 0),
  *            where the number is GONG_DONE or GONG_LOW_RATIO; else 0
  * A picture is discarded by GONG_BRIGHT_OUT_OF_RANGE unless the average of its tiles' maxima is 170 to
  * 245 levels, by GONG_DARK_OUT_OF_RANGE unless that of their minima is 10 to 80, by GONG_NO_NOISE where
- * the filter changed every level by the same, and by GONG_LOW_RATIO where the first average less the
- * second, less 1.38 deviations of the noise, is below 10 deviations.
+ * the filter changed the level of every pixel that counts by the same, and by GONG_LOW_RATIO where the
+ * first average less the second, less 1.38 deviations of the noise, is below 10 deviations. What counts
+ * for the noise is all but the three outermost rows and columns on each side.
  * Returns GONG_DONE, or one of these four, and then the buffers are as gong_filter leaves them; or what
  * gong_filter refuses a picture for, or GONG_SIDE_NOT_BY_FOUR, and then nothing is written to them. */
 uint8_t gong_measure(const uint8_t *levels, size_t levels_len, size_t width, size_t height, uint16_t *output,
                      size_t output_len, uint16_t *work, size_t work_len, uint64_t *ratio);
 
 /* The judge alone, on a picture's numbers.
- *   count    N: 1 to GONG_MOST_PIXELS
+ *   count    N, how many pixels count for the noise: 1 to GONG_MOST_PIXELS
  *   bright   M, the sum of the sixteen tiles' maxima, in eighths of a level: at most 32,640
  *   dark     m, the sum of their minima, likewise
  *   spread   D: at most 2^62

@@ -115,8 +115,16 @@ def micrograph(rng, width, height, ground=None, noise=None):
     return [level(x, y) for y in range(height) for x in range(width)]
 
 
+def near_the_rim(rng, width, height):
+    """A micrograph without noise but for one pixel, most often one that just counts for D or just does not."""
+    levels = micrograph(rng, width, height, noise=0)
+    x, y = (rng.choice((0, 2, 3, size - 4, size - 3, size - 1, rng.randrange(size))) for size in (width, height))
+    levels[y * width + x] = min(levels[y * width + x] + rng.randint(1, 9), 255)
+    return levels
+
+
 def measure_arguments(rng):
-    """A picture whose sides are multiples of 4, mostly a micrograph; or any picture of the filter's."""
+    """A picture whose sides are multiples of 4, mostly from 8 on and a micrograph; or any picture of the filter's."""
     if rng.random() < 0.2:
         return filter_arguments(rng)
     width, height = rng.choice((
@@ -124,11 +132,14 @@ def measure_arguments(rng):
         lambda: (4 * rng.randint(4, 6), 4 * rng.randint(4, 6)),
         lambda: (16, 16),
         lambda: (4 * rng.randint(7, 12), 4 * rng.randint(7, 12)),
-        lambda: (4 * rng.randint(1, 2), 4 * rng.randint(4, 10)),
-        lambda: (4 * rng.randint(4, 10), 4 * rng.randint(1, 2)),
+        lambda: (4 * rng.randint(2, 3), 4 * rng.randint(4, 10)),
+        lambda: (4 * rng.randint(4, 10), 4 * rng.randint(2, 3)),
     ))()
-    if rng.random() < 0.8:
+    kind = rng.random()
+    if kind < 0.7:
         return lent(rng, micrograph(rng, width, height), width, height)
+    if kind < 0.8 and min(width, height) >= 8:
+        return lent(rng, near_the_rim(rng, width, height), width, height)
     return lent(rng, picture(rng, rng.choice(KINDS), width, height), width, height)
 
 
@@ -396,7 +407,7 @@ def endings():
 
 
 def small_sizes():
-    """Every size to 6×6, every width to 27, and the sizes to 20×20 that can be measured."""
+    """Every size to 6×6, every width to 27, and the sizes to 20×20 by fours, which can be measured from 8×8 on."""
     sizes = [(width, height) for width in range(1, 7) for height in range(1, 7)] + [(width, 3) for width in range(7, 28)]
     return sizes + [(4 * a, 4 * b) for a in range(1, 6) for b in range(1, 6) if a > 1 or b > 1]
 
@@ -427,7 +438,7 @@ def large(rng):
     for width, height in ((1_024, 1), (1, 1_024), (1_024, 2), (2, 1_024), (1_023, 3), (3, 1_023)):
         levels = picture(rng, rng.choice(KINDS), width, height)
         made += wire.encoded(b'f', levels, width, height, (len(levels), fill(rng)), (len(levels), fill(rng)))
-    for width, height in ((1_024, 4), (4, 1_024), (1_020, 4), (4, 1_020), (100, 84)):
+    for width, height in ((1_024, 8), (8, 1_024), (1_020, 8), (8, 1_020), (1_024, 4), (100, 84)):
         levels = micrograph(rng, width, height)
         made += wire.encoded(b'm', levels, width, height, (len(levels), fill(rng)), (len(levels), fill(rng)))
     # the largest picture's four corners, and past two of them

@@ -118,14 +118,15 @@ class Scan:
 def measure(levels, width, height, output, work):
     """Measuring: the number and q. Output and work are filtered where the number is 0 or 6 to 9."""
     number = refused(len(levels), width, height, len(output), len(work))
-    if number == 0 and (width % 4 or height % 4):
-        number = 5  # "measuring, a side no multiple of 4"
+    if number == 0 and (width % 4 or height % 4 or width < 8 or height < 8):
+        number = 5  # "measuring, a side no multiple of 4"; "5 is also given when a side is below 8" (document 02, P3)
     if number:
         return number, 0
     filter(levels, width, height, output, work)
     filtered = output[:width * height]
     bright, dark = extremes(filtered, width, height)
-    return judge(width * height, bright, dark, spread(levels, filtered))
+    places = inner(width, height)
+    return judge(len(places), bright, dark, spread(levels, filtered, places))
 
 
 def extremes(filtered, width, height):
@@ -140,9 +141,14 @@ def extremes(filtered, width, height):
     return bright, dark
 
 
-def spread(levels, filtered):
-    """"D = N·(sum of d²) − (sum of d)²", with "d = 8·(original level) − (filtered eighths)" at each pixel."""
-    differences = [8 * level - eighths for level, eighths in zip(levels, filtered, strict=True)]
+def inner(width, height):
+    """Which pixels count for N and D (document 02, P3): "the sum for D leaves out the three outermost rows and columns on each side"."""
+    return [y * width + x for y in range(3, height - 3) for x in range(3, width - 3)]
+
+
+def spread(levels, filtered, places):
+    """"D = N·(sum of d²) − (sum of d)²", with "d = 8·(original level) − (filtered eighths)" at each of these pixels."""
+    differences = [8 * levels[k] - filtered[k] for k in places]
     return len(differences) * sum(d * d for d in differences) - sum(differences) ** 2
 
 

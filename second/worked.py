@@ -53,6 +53,21 @@ def measured(width, height, levels):
     return rules.measure(levels, width, height, [0] * len(levels), [0] * len(levels))
 
 
+def noise(width, height, levels):
+    """N and D of a picture, by way of the filter."""
+    output = [0] * len(levels)
+    rules.filter(levels, width, height, output, [0] * len(levels))
+    places = rules.inner(width, height)
+    return len(places), rules.spread(levels, output, places)
+
+
+def bands(width, height, x, y):
+    """Two dark rows and two bright ones by turns, which the filter leaves alone, but one level more at x, y, which it takes back."""
+    levels = [200 if k // width // 2 % 2 else 40 for k in range(width * height)]
+    levels[y * width + x] += 1
+    return levels
+
+
 def judged_six(bright):
     return rules.judge(256, bright, 6_400, 419_430_400)[0] == 6
 
@@ -139,6 +154,20 @@ WORKED = [
     (judged_seven, (10_240,), False),
     # "For one kind-1 record whose levels are all 40": "16 16 6 0"
     (measured, (16, 16, [40] * 256), (6, 0)),
+    # "the sum for D leaves out the three outermost rows and columns on each side, and N .. is (w−6)·(h−6)" (document 02, P3): N pixels of
+    # which one has d = 8 have D = N·64 − 64, and where it is one of those that are left out D = 0
+    *[(noise, (12, 20, bands(12, 20, x, y)), (84, 5_312)) for x, y in ((3, 3), (8, 3), (3, 16), (8, 16))],
+    *[(noise, (12, 20, bands(12, 20, x, y)), (84, 0)) for x, y in ((2, 3), (3, 2), (9, 16), (8, 17), (0, 9), (11, 9), (5, 0), (5, 19))],
+    (noise, (20, 12, bands(20, 12, 16, 8)), (84, 5_312)),
+    (noise, (20, 12, bands(20, 12, 8, 9)), (84, 0)),
+    # "a plain slope in the picture counts as noise there": no more
+    (noise, (12, 12, [20 * (k % 12) for k in range(144)]), (36, 0)),
+    (noise, (8, 8, [8 * (k // 8) for k in range(64)]), (4, 0)),
+    # "5 is also given when a side is below 8"
+    (measured, (4, 4, [40] * 16), (5, 0)),
+    (measured, (4, 8, [40] * 32), (5, 0)),
+    (measured, (8, 4, [40] * 32), (5, 0)),
+    (measured, (8, 8, [40] * 64), (6, 0)),
     # "Threshold: one pixel each at 0 and 255: 255/2, 1 round. three at 10, one at 20: 90/6, 2 rounds. one each at 100, 128,
     # 156: 1024/8, 0 rounds, though 121 and 135 rest too."
     (rules.two_means, (histogram(v0=1, v255=1),), (0, 1, 255, 2)),

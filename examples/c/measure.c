@@ -9,7 +9,7 @@
 
 #include "gong.h"
 
-#define SIDE 16 /* a multiple of 4, so that sixteen tiles can be cut */
+#define SIDE 16 /* a multiple of 4, so that sixteen tiles can be cut, and not below 8 */
 #define PIXELS (SIDE * SIDE)
 
 /* Bright and dark squares of 2 by 2 pixels; every pixel on some slanted lines is lighter by `noise`. */
@@ -23,7 +23,7 @@ static void draw(uint8_t *levels, int noise)
 
 int main(void)
 {
-    /* no noise at all: GONG_NO_NOISE; a little: measured, ratio 29.63; too much: GONG_LOW_RATIO */
+    /* no noise at all: GONG_NO_NOISE; a little: measured, ratio 30.07; too much: GONG_LOW_RATIO */
     const int noises[] = {0, 9, 50};
     static const char *const texts[GONG_NUMBERS] = GONG_TEXTS;
     uint8_t levels[PIXELS];

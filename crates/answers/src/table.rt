@@ -1,5 +1,5 @@
 // Document 01, "Numbers that come back": each number once, with the table's own words. (16 to 18 are of
-// the program gongspindle; those from 20 on are of document 02.)
+// the program gongspindle; those from 20 on are of document 02, which also amends a number above.)
 
 // "done"
 pub const DONE: u8 = 0;
@@ -16,7 +16,7 @@ pub const SHORT_OUTPUT: u8 = 3;
 // "work buffer shorter than w·h"
 pub const SHORT_WORK: u8 = 4;
 
-// "measuring, a side no multiple of 4"
+// "measuring, a side no multiple of 4"; document 02, P3: also "when a side is below 8"
 pub const SIDE_NOT_BY_FOUR: u8 = 5;
 
 // "M out of range"

@@ -1,11 +1,12 @@
 -- Sums of signed numbers: one number more, numbers that are the same, a factor before them or behind them, and sums of differences and
--- of natural numbers. Assumes nothing.
+-- of natural numbers, of all or of those that are picked. Assumes nothing.
+use mathlib.Core.Bool.{Bool, true, false, cond}
 use mathlib.Core.Path.{_≡_, refl, sym, _∙_}
 use Prim.Native.Nat.{ℕ, zero, suc, _+_, _<_}
 use native.Mathlib.Numerals.{add-one}
 use native.Mathlib.Omega.{arith}
 use lib.IntN.{ℤ, pos, subℕ, _+ℤ_, _-ℤ_, _*ℤ_, *ℤ-zero, *ℤ-comm}
-use Rattle.arithmetic.specs.Sums.{sum, sumℤ}
+use Rattle.arithmetic.specs.Sums.{sum, sumOver, sumℤ, sumOverℤ}
 use Rattle.arithmetic.proofs.Differences.{pos-diff, add-diff, pos-minus, mul-addℤ}
 
 pub sumℤ-none : (z : ℕ → ℤ) → sumℤ 0 z ≡ pos 0
@@ -47,3 +48,23 @@ pub sum-natural : (n : ℕ) (z : ℕ → ℤ) (f : ℕ → ℕ) → ((i : ℕ) �
 unfolding sum sumℤ
 sum-natural zero z f p = refl
 sum-natural (suc n) z f p = rw (sum-natural n z f p, p n)
+
+-- the last two of the numbers that p picks
+module _ (n : ℕ) (p : ℕ → Bool) where
+  pub over-natural : (z : ℕ → ℤ) (f : ℕ → ℕ) → ((i : ℕ) → z i ≡ pos (f i)) → sumOverℤ n p z ≡ pos (sumOver n p f)
+  unfolding sumOver sumOverℤ
+  over-natural z f is = sum-natural n (λ i. cond (p i) (z i) (pos 0)) (λ i. cond (p i) (f i) 0) (λ i. picked (p i) i)
+    where
+      picked : (b : Bool) (i : ℕ) → cond b (z i) (pos 0) ≡ pos (cond b (f i) 0)
+      picked true i = is i
+      picked false i = refl
+
+  pub over-minus : (f g : ℕ → ℕ) → sumOverℤ n p (λ i. pos (f i) -ℤ pos (g i)) ≡ pos (sumOver n p f) -ℤ pos (sumOver n p g)
+  unfolding sumOver sumOverℤ
+  over-minus f g =
+      sum-diff n (λ i. cond (p i) (pos (f i) -ℤ pos (g i)) (pos 0)) (λ i. cond (p i) (f i) 0) (λ i. cond (p i) (g i) 0) (λ i. picked (p i) i)
+      ∙ sym (pos-minus (sumOver n p f) (sumOver n p g))
+    where
+      picked : (b : Bool) (i : ℕ) → cond b (pos (f i) -ℤ pos (g i)) (pos 0) ≡ subℕ (cond b (f i) 0) (cond b (g i) 0)
+      picked true i = pos-minus (f i) (g i)
+      picked false i = pos-diff 0

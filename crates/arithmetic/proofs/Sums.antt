@@ -1,5 +1,5 @@
--- Laws of sums: one number more, two sums in one, a part more, bounds, and that the square of a sum is at most n times the sum of the
--- squares. Assumes nothing.
+-- Laws of sums: one number more, two sums in one, a part more, row by row, bounds, and that the square of a sum is at most n times the
+-- sum of the squares. Assumes nothing.
 use mathlib.Core.Path.{_≡_, refl, sym, ap, _∙_}
 use mathlib.Core.Logic.{⊎-elim}
 use Prim.Native.Nat.{ℕ, zero, suc, _+_, _-_, _*_, _<_, _≤_, zero-le}
@@ -53,7 +53,13 @@ unfolding sum
 sum-parts a zero f = let e : a + 0 ≡ a = omega arith in let z : sum a f + 0 ≡ sum a f = omega arith in rw (e, z)
 sum-parts a (suc n) f = let e : a + suc n ≡ suc (a + n) = omega arith in rw e (omega (arith, sum-parts a n f))
 
--- the same of a sum that is cut at a place
+-- a sum row by row, of h rows of w numbers
+pub sum-by-rows : (h w : ℕ) (f : ℕ → ℕ) → sum (h * w) f ≡ sum h (λ j. sum w (λ i. f (j * w + i)))
+unfolding sum
+sum-by-rows zero w f = rw (zero-mul w)
+sum-by-rows (suc h) w f = rw (suc-mul h w, sum-parts (h * w) w f, sum-by-rows h w f)
+
+-- a sum that is cut at a place
 pub sum-cut : (f : ℕ → ℕ) (a n : ℕ) → a ≤ n → sum n f ≡ sum a f + sum (n - a) (λ i. f (a + i))
 sum-cut f a n inside = let e : n ≡ a + (n - a) = omega arith in ap (λ (m : ℕ). sum m f) e ∙ sum-parts a (n - a) f
 

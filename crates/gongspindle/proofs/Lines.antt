@@ -2,31 +2,33 @@
 use mathlib.Core.Path.{_≡_, refl, ap, sym, subst, _∙_}
 use mathlib.Core.List.{List}
 use mathlib.Core.Logic.{_⊎_, inl, inr}
-use Prim.Native.Nat.{ℕ, _*_, _%_, _≤_}
+use Prim.Native.Nat.{ℕ, _*_, _≤_}
 use native.Mathlib.Omega.{arith}
 use lib.Dec.{lit≤}
 use lib.ListN.{length, take, drop}
 use lib.Seq.{take-append-seam}
 use Rattle.answers.proofs.Refusals.{past}
 use Rattle.picture.specs.Picture.{Side}
+use Rattle.picture.proofs.Shapes.{WellShaped}
 use Rattle.filter.specs.Filter.{passThree}
 use Rattle.judge.specs.declared.Verdict.{Verdict}
-use Rattle.judge.specs.Measure.{Measurement, measurement, Measured, MeasureIs}
+use Rattle.judge.specs.Measure.{MeasurableSide, Measurement, measurement, Measured, MeasureIs}
+use Rattle.judge.proofs.Outcomes.{when-measured}
 use Rattle.threshold.specs.declared.Threshold.{Threshold}
 use Rattle.threshold.specs.Histogram.{Countable, tally, Counted, CountIs}
 use Rattle.threshold.specs.TwoMeans.{TwoMeansIs}
 use Rattle.gongspindle.specs.Line.{SquarePicture, LineIs}
 
--- a side of 16 or 64 is in range and a multiple of 4, and its square has room in 4,096 places
+-- a side of 16 or 64 is in range and can be measured, and its square has room in 4,096 places
 pub record GoodSide (side : ℕ) : Type 0 where
   pub in-range : Side side
-  pub by-four : side % 4 ≡ 0
+  pub measurable : MeasurableSide side
   pub some : 1 ≤ side * side
   pub few : side * side ≤ 4096
 
 pub good-side : {side : ℕ} → (side ≡ 16) ⊎ (side ≡ 64) → GoodSide side
-good-side (inl e) = rw e (record { in-range = (lit≤ tt, lit≤ tt); by-four = refl; some = lit≤ tt; few = lit≤ tt })
-good-side (inr e) = rw e (record { in-range = (lit≤ tt, lit≤ tt); by-four = refl; some = lit≤ tt; few = lit≤ tt })
+good-side (inl e) = rw e (record { in-range = (lit≤ tt, lit≤ tt); measurable = (refl, lit≤ tt); some = lit≤ tt; few = lit≤ tt })
+good-side (inr e) = rw e (record { in-range = (lit≤ tt, lit≤ tt); measurable = (refl, lit≤ tt); some = lit≤ tt; few = lit≤ tt })
 
 module _ (levels : List ℕ) (side : ℕ) (square : SquarePicture side levels) where
   abbrev F : GoodSide side
@@ -37,8 +39,9 @@ module _ (levels : List ℕ) (side : ℕ) (square : SquarePicture side levels) w
       → Measured levels side side output work r
   measured output work r a b is =
       let few = F .few in
-      past (F .by-four, F .by-four)
-      (past (omega arith) (past (omega arith) (past (square .1) (past (F .in-range, F .in-range) is))))
+      let shape : WellShaped (length levels) side side = record { sides = (F .in-range, F .in-range); all-levels = square .1 } in
+      when-measured levels side side output work r (record { shape = shape; long-output = omega arith; long-work = omega arith })
+      (F .measurable, F .measurable) is
 
   -- what was measured, counted and parted is the line
   pub line : (output work o k histogram counts : List ℕ) (v : Verdict) (n : ℕ) (t : Threshold) → 4096 ≡ length output → 4096 ≡ length work

@@ -16,6 +16,7 @@ use Rattle.arithmetic.specs.declared.Fraction.{Fraction}
 use Rattle.arithmetic.specs.Fractions.{fraction, NotMore}
 use Rattle.judge.specs.declared.Verdict.{Verdict}
 use Rattle.judge.specs.Extremes.{bright, dark}
+use Rattle.judge.specs.Noise.{innerPixels}
 use Rattle.judge.specs.Judge.{InRange, BrightInRange, DarkInRange, Reaches, RatioIs, refused, JudgeIs}
 use Rattle.judge.specs.Measure.{Judged, Measurement, Measured}
 use Rattle.judge.specs.AnnexA.{plus, times, squared, span, deviationSquared, AverageInRange, RatioFrom, RatioTen, Unfit, Discarded, Exactly}
@@ -121,8 +122,8 @@ module _ (N : ℕ) (M m : Eighths) (D : ℕ) (v : Verdict) (taken : InRange N M 
 -- the same of a picture and what it was filtered to, whose numbers the judge always takes
 module _ (levels filtered : List ℕ) (w h : ℕ) (v : Verdict) (j : Judged levels filtered w h v) where
   pub judged-discarded-exactly :
-      Exactly (Discarded (v .number)) (Unfit (w * h) (bright w h filtered) (dark w h filtered) (j .spread)) × ((v .number ≡ 0) ⊎ Discarded (v .number))
-  judged-discarded-exactly = discarded-exactly (w * h) (bright w h filtered) (dark w h filtered) (j .spread) v (j .in-range) (j .verdict-is)
+      Exactly (Discarded (v .number)) (Unfit (innerPixels w h) (bright w h filtered) (dark w h filtered) (j .spread)) × ((v .number ≡ 0) ⊎ Discarded (v .number))
+  judged-discarded-exactly = discarded-exactly (innerPixels w h) (bright w h filtered) (dark w h filtered) (j .spread) v (j .in-range) (j .verdict-is)
 
   -- its number is never 15
   pub never-fifteen : ¬ (v .number ≡ 15)
@@ -136,7 +137,7 @@ module _ (levels : List ℕ) (w h : ℕ) (output work : List ℕ) (r : Measureme
   abbrev filtered : List ℕ
   filtered = passThree w h levels
 
-  pub measured-discarded-exactly : Exactly (Discarded number) (Unfit (w * h) (bright w h filtered) (dark w h filtered) (d .judged .spread)) × ((number ≡ 0) ⊎ Discarded number)
+  pub measured-discarded-exactly : Exactly (Discarded number) (Unfit (innerPixels w h) (bright w h filtered) (dark w h filtered) (d .judged .spread)) × ((number ≡ 0) ⊎ Discarded number)
   measured-discarded-exactly = judged-discarded-exactly levels filtered w h (r .verdict) (d .judged)
 
   pub measured-never-fifteen : ¬ (number ≡ 15)

@@ -11,7 +11,6 @@ use lib.ListN.{length, getD, take, drop, length-take, length-drop}
 use Rattle.arithmetic.proofs.Order.{row-end}
 use Rattle.arithmetic.proofs.Lists.{length-joined, joined-at, part-at}
 use Rattle.judge.specs.Extremes.{maximum, minimum, tile}
-use Rattle.judge.specs.Measure.{ByFour}
 
 -- v is an element
 abbrev pub In : ℕ → List ℕ → Type 0
@@ -110,7 +109,7 @@ module _ (w h : ℕ) (x : List ℕ) (b a : ℕ) (whole : length x ≡ w * h) (ro
       ∙ ap (λ (k : ℕ). getD x k 0) (omega arith)
 
 -- every pixel of a picture whose sides are multiples of 4 lies in a tile, so that none is left out
-module _ (w h : ℕ) (x : List ℕ) (whole : length x ≡ w * h) (fours : ByFour w h) (row column : ℕ) (inside : (row < h) × (column < w)) where
+module _ (w h : ℕ) (x : List ℕ) (whole : length x ≡ w * h) (fours : (w % 4 ≡ 0) × (h % 4 ≡ 0)) (row column : ℕ) (inside : (row < h) × (column < w)) where
   -- which quarter of n a place lies in
   quarter : (n k : ℕ) → n % 4 ≡ 0 → k < n → (0 < n / 4) × (k / (n / 4) < 4)
   quarter n k four less =

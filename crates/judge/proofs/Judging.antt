@@ -3,23 +3,22 @@
 use mathlib.Core.Path.{_≡_, ap, _∙_}
 use mathlib.Core.List.{List}
 use mathlib.Core.Logic.{inl, inr}
-use Prim.Native.Nat.{ℕ, _-_, _*_, _^_, _≤_}
-use native.Mathlib.Nat.{mul-le-mul}
+use Prim.Native.Nat.{ℕ, _-_, _^_, _≤_}
 use native.Mathlib.Omega.{arith}
 use lib.IntN.{pos}
 use Rattle.answers.specs.Refusals.{Unless}
 use Rattle.answers.proofs.Refusals.{goes-on, carried}
 use Rattle.units.specs.Units.{eighths}
 use Rattle.units.specs.declared.Eighths.{Eighths}
-use Rattle.picture.proofs.Shapes.{pixels}
 use Rattle.judge.specs.declared.Verdict.{Verdict}
 use Rattle.judge.specs.Extremes.{maximum, minimum, bright, dark}
-use Rattle.judge.specs.Noise.{spreadOf}
+use Rattle.judge.specs.Noise.{innerPixels, spreadOf}
 use Rattle.judge.specs.Judge.{InRange, BrightInRange, DarkInRange, RatioIs, Tested, refused, JudgeIs}
 use Rattle.judge.specs.Measure.{Judged}
 use Rattle.judge.specs.Asked.{Tiled}
 use Rattle.judge.proofs.Maxima.{maximum-most, minimum-most}
 use Rattle.judge.proofs.Tiles.{tiles-most}
+use Rattle.judge.proofs.Inner.{some-inner, few-inner}
 
 -- no test stops the judge
 pub record Past (N : ℕ) (M m : Eighths) (D : ℕ) : Type 0 where
@@ -62,17 +61,17 @@ module _ (N : ℕ) (M m : Eighths) (D high low n : ℕ) (is-high : high ≡ M .0
       goes-on (p .taken) (goes-on (p .bright-in) (goes-on (p .dark-in) (goes-on (p .some) (record { ratio = rw (is-high, is-low) at ratio; number = number }))))
 
 -- a picture's own numbers are what the judge takes, and its verdict on them is the picture's
-module _ (levels x : List ℕ) (w h : ℕ) (t : Tiled w h x) (D : ℕ) (spread-is : pos D ≡ spreadOf (w * h) levels x) (small : D ≤ 2 ^ 62) where
-  taken : InRange (w * h) (bright w h x) (dark w h x) D
+module _ (levels x : List ℕ) (w h : ℕ) (t : Tiled w h x) (D : ℕ) (spread-is : pos D ≡ spreadOf w h levels x) (small : D ≤ 2 ^ 62) where
+  taken : InRange (innerPixels w h) (bright w h x) (dark w h x) D
   taken =
       record {
-        count-low = let s = t .sides in mul-le-mul (s .0 .0) (s .1 .0);
-        count-high = pixels w h (t .sides);
+        count-low = some-inner w h (t .measurable);
+        count-high = few-inner w h (t .sides);
         bright-high = tiles-most w h x maximum 2040 (maximum-most 2040) (t .small);
         dark-high = tiles-most w h x minimum 2040 (minimum-most 2040) (t .small);
         spread-high = small;
       }
 
-  pub judged : (N : ℕ) (M m : Eighths) (v : Verdict) → N ≡ w * h → M ≡ bright w h x → m ≡ dark w h x → JudgeIs N M m D v → Judged levels x w h v
+  pub judged : (N : ℕ) (M m : Eighths) (v : Verdict) → N ≡ innerPixels w h → M ≡ bright w h x → m ≡ dark w h x → JudgeIs N M m D v → Judged levels x w h v
   judged N M m v count is-bright is-dark is =
       record { spread = D; spread-is = spread-is; in-range = taken; verdict-is = rw (count, is-bright, is-dark) at is }

@@ -1,6 +1,8 @@
 pub mod Maxima
 pub mod Tiles
+pub mod Inner
 pub mod Spreads
+pub mod InnerRows
 pub mod Digits
 pub mod Ratios
 pub mod Judging

@@ -1,6 +1,6 @@
 -- The maximum and the minimum of a list as the code gathers them, one element and one part after the other (both are `foldl`, of
 -- `max` and of `min`); and how large they can be. Assumes nothing.
-use mathlib.Core.Path.{_≡_, refl}
+use mathlib.Core.Path.{_≡_, refl, sym, ap, _∙_}
 use mathlib.Core.List.{List, [], _∷_, foldl}
 use Prim.Native.Nat.{ℕ, suc, _+_, _≤_, _<_, min, max}
 use native.Mathlib.Numerals.{add-one}
@@ -18,6 +18,18 @@ module _ (f : ℕ → ℕ → ℕ) (row : List ℕ) (i : ℕ) where
   -- none is left
   pub gathered-all : length row ≤ i → (a : ℕ) → foldl f a (drop i row) ≡ a
   gathered-all p a = rw (drop-of-length-le row p)
+
+-- what is gathered from a part by itself, put to what was gathered before it
+module _ (f : ℕ → ℕ → ℕ) (one-by-one : (a b c : ℕ) → f (f a b) c ≡ f a (f b c)) where
+  put-to : (a b : ℕ) (l : List ℕ) → foldl f (f a b) l ≡ f a (foldl f b l)
+  put-to a b [] = refl
+  put-to a b (x ∷ l) = rw (one-by-one a b x) (put-to a (f b x) l)
+
+pub put-to-max : (a : ℕ) (l : List ℕ) → max a (foldl max 0 l) ≡ foldl max a l
+put-to-max a l = let e : max a 0 ≡ a = omega arith in sym (put-to max (λ a b c. omega arith) a 0 l) ∙ ap (λ (n : ℕ). foldl max n l) e
+
+pub put-to-min : (b a : ℕ) (l : List ℕ) → a ≤ b → min a (foldl min b l) ≡ foldl min a l
+put-to-min b a l low = let e : min a b ≡ a = omega arith in sym (put-to min (λ a b c. omega arith) a b l) ∙ ap (λ (n : ℕ). foldl min n l) e
 
 -- from 0 up it is the maximum that is gathered
 pub maximum-is : (l : List ℕ) → foldl max 0 l ≡ maximum l

@@ -8,17 +8,16 @@ use native.Mathlib.Nat.{mul-le-mul, le-trans, le-antisymm}
 use native.Mathlib.Numerals.{add-one}
 use native.Mathlib.Omega.{arith}
 use lib.IntN.{pos, _-ℤ_}
-use lib.ListN.{length, take, drop, length-take, length-drop}
 use Rattle.arithmetic.specs.Signed.{natOf, square}
 use Rattle.arithmetic.specs.Lists.{AtMost}
 use Rattle.arithmetic.specs.Sums.{sum}
 use Rattle.arithmetic.proofs.Order.{le-or-lt}
 use Rattle.arithmetic.proofs.Differences.{pos-minus, sub-pos, sub-neg}
-use Rattle.arithmetic.proofs.Lists.{part-at, most-take, most-drop}
 use Rattle.arithmetic.proofs.Sums.{sum-none, sum-more, sum-goes-on, square-of-sum}
-use Rattle.arithmetic.proofs.SignedSums.{sum-natural, sum-minus}
-use Rattle.judge.specs.Noise.{difference, spreadOf}
-use Rattle.judge.specs.Asked.{SamePixels, dist, light, flat, gap, Sums}
+use Rattle.arithmetic.proofs.SignedSums.{over-natural, over-minus}
+use Rattle.judge.specs.Noise.{counts, innerPixels, difference, sumInner, spreadOf}
+use Rattle.judge.specs.Asked.{dist, light, flat, innerPlace, Sums}
+use Rattle.judge.proofs.Inner.{over-inner}
 
 -- the square of a difference is the square of how far the two are apart
 square-apart : (a b : ℕ) → square (pos a -ℤ pos b) ≡ pos (dist a b * dist a b)
@@ -33,141 +32,134 @@ unfolding sum
 sums-apart zero f g = omega arith
 sums-apart (suc n) f g = omega (arith, sums-apart n f g)
 
--- D over the first n pixels, in natural numbers
-module _ (n : ℕ) (levels filtered : List ℕ) where
+-- n pixels, of which the k-th has 8 times the level l k and the filtered eighths f k
+module _ (n : ℕ) (l f : ℕ → ℕ) where
   -- the sum of d²
   abbrev squaresOf : ℕ
-  squaresOf = sum n (λ k. gap levels filtered k * gap levels filtered k)
+  squaresOf = sum n (λ k. dist (l k) (f k) * dist (l k) (f k))
 
   -- how far the sum of d is from 0
   abbrev awayOf : ℕ
-  awayOf = dist (sum n (light levels)) (sum n (flat filtered))
+  awayOf = dist (sum n l) (sum n f)
 
   -- the square of the sum is at most n times the sum of the squares
   never-wraps : awayOf * awayOf ≤ n * squaresOf
   never-wraps =
-      let apart = sums-apart n (light levels) (flat filtered) in
-      le-trans (mul-le-mul apart apart) (square-of-sum (gap levels filtered) n)
+      let apart = sums-apart n l f in
+      le-trans (mul-le-mul apart apart) (square-of-sum (λ k. dist (l k) (f k)) n)
 
-  -- so D is the one less the other, in natural numbers
-  in-naturals : spreadOf n levels filtered ≡ pos (n * squaresOf - awayOf * awayOf)
-  unfolding spreadOf
-  in-naturals =
-      let g = gap levels filtered in
-      let l = light levels in
-      let f = flat filtered in
-      rw (
-        sum-natural n (λ k. square (difference levels filtered k)) (λ k. g k * g k) (λ k. square-apart (l k) (f k)),
-        sum-minus n l f,
-        square-apart (sum n l) (sum n f),
-        pos-minus (n * squaresOf) (awayOf * awayOf),
-      )
-      (sub-pos (n * squaresOf) (awayOf * awayOf) never-wraps)
+-- the three sums, of any such pixels
+module _ (l f : ℕ → ℕ) where
+  abbrev squared : ℕ → ℕ
+  squared k = dist (l k) (f k) * dist (l k) (f k)
 
--- D is never below 0
-pub never-negative : (n : ℕ) (levels filtered : List ℕ) → pos (natOf (spreadOf n levels filtered)) ≡ spreadOf n levels filtered
-never-negative n levels filtered = rw (in-naturals n levels filtered)
-
--- the sums of no pixels
-pub sums-none : (levels filtered : List ℕ) → Sums levels filtered 0 0 0 0
-sums-none levels filtered =
-    record {
-      squares-is = sym (sum-none (λ k. gap levels filtered k * gap levels filtered k));
-      lights-is = sym (sum-none (light levels));
-      flats-is = sym (sum-none (flat filtered));
-      squares-most = omega arith;
-      lights-most = omega arith;
-      flats-most = omega arith;
-    }
-
--- the sums with one pixel more, where a is 8 times its level and d how far the filtered value is from it
-pub sums-more : (levels filtered : List ℕ) {k squares lights flats a d : ℕ} → AtMost 2040 filtered
-    → (a ≡ light levels k) × (a ≤ 2040) → d ≡ dist a (flat filtered k)
-    → Sums levels filtered k squares lights flats → Sums levels filtered (k + 1) (squares + d * d) (lights + a) (flats + flat filtered k)
-sums-more levels filtered {k} {squares} {lights} {flats} {a} {d} small lit apart s =
-    let near : d ≤ 2040 = omega (arith, lit .1, small k) in
-    let is : d ≡ gap levels filtered k = rw (lit .0) at apart in
-    record {
-      squares-is = rw (sum-more k (λ j. gap levels filtered j * gap levels filtered j), ← s .squares-is, ← is);
-      lights-is = rw (sum-more k (light levels), ← s .lights-is, ← lit .0);
-      flats-is = rw (sum-more k (flat filtered), ← s .flats-is);
-      squares-most = omega (arith, s .squares-most, mul-le-mul near near);
-      lights-most = omega (arith, s .lights-most, lit .1);
-      flats-most = omega (arith, s .flats-most, small k);
-    }
-
--- the sums where a loop ends
-pub sums-done : {levels filtered : List ℕ} {k n squares lights flats : ℕ} → k ≤ n → n ≤ k
-    → Sums levels filtered k squares lights flats → Sums levels filtered n squares lights flats
-sums-done {levels} {filtered} {k} {n} {squares} {lights} {flats} h g s =
-    subst (λ (m : ℕ). Sums levels filtered m squares lights flats) (le-antisymm h g) s
-
-module _ (levels filtered : List ℕ) (at n : ℕ) where
-  abbrev levels' : List ℕ
-  levels' = take n (drop at levels)
-
-  abbrev filtered' : List ℕ
-  filtered' = take n (drop at filtered)
-
-  -- the sums with the next n pixels
-  sums-joined : {squares lights flats s l f : ℕ} → Sums levels filtered at squares lights flats → Sums levels' filtered' n s l f
-      → Sums levels filtered (at + n) (squares + s) (lights + l) (flats + f)
-  sums-joined {squares} {lights} {flats} {s} {l} {f} p q =
-      let g = gap levels filtered in
-      let g' = gap levels' filtered' in
-      let apart : (k : ℕ) → k < n → g' k * g' k ≡ g (at + k) * g (at + k) = λ k h. rw (part-at at n levels k h, part-at at n filtered k h) in
-      let lit : (k : ℕ) → k < n → light levels' k ≡ light levels (at + k) = λ k h. rw (part-at at n levels k h) in
+  -- of none
+  pub sums-none : Sums l f 0 0 0 0
+  sums-none =
       record {
-        squares-is = rw (p .squares-is, q .squares-is) (sum-goes-on at n (λ k. g k * g k) (λ k. g' k * g' k) apart);
-        lights-is = rw (p .lights-is, q .lights-is) (sum-goes-on at n (light levels) (light levels') lit);
-        flats-is = rw (p .flats-is, q .flats-is) (sum-goes-on at n (flat filtered) (flat filtered') (part-at at n filtered));
+        squares-is = sym (sum-none squared);
+        lights-is = sym (sum-none l);
+        flats-is = sym (sum-none f);
+        squares-most = omega arith;
+        lights-most = omega arith;
+        flats-most = omega arith;
+      }
+
+  -- with one pixel more, where a is 8 times its level and d how far the filtered value is from it
+  pub sums-more : {k squares lights flats a d : ℕ} → f k ≤ 2040 → (a ≡ l k) × (a ≤ 2040) → d ≡ dist a (f k)
+      → Sums l f k squares lights flats → Sums l f (k + 1) (squares + d * d) (lights + a) (flats + f k)
+  sums-more {k} {squares} {lights} {flats} {a} {d} small lit apart s =
+      let near : d ≤ 2040 = omega (arith, lit .1, small) in
+      let is : d ≡ dist (l k) (f k) = rw (lit .0) at apart in
+      record {
+        squares-is = rw (sum-more k squared, ← s .squares-is, ← is);
+        lights-is = rw (sum-more k l, ← s .lights-is, ← lit .0);
+        flats-is = rw (sum-more k f, ← s .flats-is);
+        squares-most = omega (arith, s .squares-most, mul-le-mul near near);
+        lights-most = omega (arith, s .lights-most, lit .1);
+        flats-most = omega (arith, s .flats-most, small);
+      }
+
+  -- where a loop ends
+  pub sums-done : {k n squares lights flats : ℕ} → k ≤ n → n ≤ k → Sums l f k squares lights flats → Sums l f n squares lights flats
+  sums-done {k} {n} {squares} {lights} {flats} h g s = subst (λ (m : ℕ). Sums l f m squares lights flats) (le-antisymm h g) s
+
+  -- with the next n pixels, of which the k-th has l' k and f' k
+  pub sums-joined : (l' f' : ℕ → ℕ) (at n : ℕ) → ((k : ℕ) → k < n → l' k ≡ l (at + k)) → ((k : ℕ) → k < n → f' k ≡ f (at + k))
+      → {squares lights flats a b c : ℕ} → Sums l f at squares lights flats → Sums l' f' n a b c
+      → Sums l f (at + n) (squares + a) (lights + b) (flats + c)
+  sums-joined l' f' at n lit flat {squares} {lights} {flats} {a} {b} {c} p q =
+      let squared' : ℕ → ℕ = λ k. dist (l' k) (f' k) * dist (l' k) (f' k) in
+      record {
+        squares-is = rw (p .squares-is, q .squares-is) (sum-goes-on at n squared squared' (λ k h. rw (lit k h, flat k h)));
+        lights-is = rw (p .lights-is, q .lights-is) (sum-goes-on at n l l' lit);
+        flats-is = rw (p .flats-is, q .flats-is) (sum-goes-on at n f f' flat);
         squares-most = omega (arith, p .squares-most, q .squares-most);
         lights-most = omega (arith, p .lights-most, q .lights-most);
         flats-most = omega (arith, p .flats-most, q .flats-most);
       }
 
--- the stretch of a picture from `at` to `end`
-module _ {bound : ℕ} (levels filtered : List ℕ) (pair : SamePixels bound levels filtered) (at end : ℕ) (up : at ≤ end) (in-it : end ≤ length filtered) where
-  long : length (take (end - at) (drop at filtered)) ≡ end - at
-  long = simp (length-take, length-drop) (omega arith)
+  -- of all n pixels, where no number is too great
+  all-sums : ((k : ℕ) → l k ≤ 2040) → ((k : ℕ) → f k ≤ 2040) → (n : ℕ) → Sums l f n (squaresOf n l f) (sum n l) (sum n f)
+  unfolding sum
+  all-sums bytes small zero = sums-none
+  all-sums bytes small (suc n) = rw add-one at (sums-more (small n) (refl, bytes n) refl (all-sums bytes small n))
 
-  -- it has as many levels as filtered values
-  pub stretch-pair : {few : ℕ} → end ≤ at + few → SamePixels few (take (end - at) (drop at levels)) (take (end - at) (drop at filtered))
-  stretch-pair {few} h =
-      record {
-        same = simp (length-take, length-drop) (omega (arith, pair .same));
-        long = omega (arith, long);
-        small = most-take 2040 (end - at) (drop at filtered) (most-drop 2040 at filtered (pair .small));
-      }
-
-  -- and its sums are added to those of the pixels before it
-  pub sums-stretch : {squares lights flats s l f : ℕ} → Sums levels filtered at squares lights flats
-      → Sums (take (end - at) (drop at levels)) (take (end - at) (drop at filtered)) (length (take (end - at) (drop at filtered))) s l f
-      → Sums levels filtered end (squares + s) (lights + l) (flats + f)
-  sums-stretch p q = let ends : at + (end - at) ≡ end = omega arith in rw ends at (sums-joined levels filtered at (end - at) p (rw long at q))
-
--- what the code makes of the sums of all n pixels
-module _ {levels filtered : List ℕ} {n squares lights flats : ℕ} (s : Sums levels filtered n squares lights flats) where
   -- the product has room
-  pub room : n ≤ 1048576 → n * squares ≤ 2 ^ 62
-  room h = let all : squares ≤ 1048576 * 4161600 = omega (arith, s .squares-most) in omega (arith, mul-le-mul h all)
+  pub room : {n squares lights flats : ℕ} → Sums l f n squares lights flats → n ≤ 1048576 → n * squares ≤ 2 ^ 62
+  room {n} {squares} s h = let all : squares ≤ 1048576 * 4161600 = omega (arith, s .squares-most) in omega (arith, mul-le-mul h all)
 
-  -- the subtraction never wraps
-  pub no-wrap : {away : ℕ} → away ≡ dist lights flats → away * away ≤ n * squares
-  no-wrap is = rw (is, s .squares-is, s .lights-is, s .flats-is) (never-wraps n levels filtered)
+  -- and the subtraction never wraps
+  pub no-wrap : {n squares lights flats away : ℕ} → Sums l f n squares lights flats → away ≡ dist lights flats → away * away ≤ n * squares
+  no-wrap {n} s is = rw (is, s .squares-is, s .lights-is, s .flats-is) (never-wraps n l f)
 
-  -- and the difference is D
-  pub is-spread : {away : ℕ} → away ≡ dist lights flats → pos (n * squares - away * away) ≡ spreadOf n levels filtered
-  is-spread is = rw (is, s .squares-is, s .lights-is, s .flats-is) (sym (in-naturals n levels filtered))
+-- ---- D of a picture: the pixels are those of it that count
+-- 8 times the level of the k-th of them, and its filtered eighths
+abbrev pub lightAt : ℕ → List ℕ → ℕ → ℕ
+lightAt w levels k = light levels (innerPlace w k)
 
--- the sums of any picture
-all-sums : (n : ℕ) (levels filtered : List ℕ) → AtMost 255 levels → AtMost 2040 filtered
-    → Sums levels filtered n (squaresOf n levels filtered) (sum n (light levels)) (sum n (flat filtered))
-unfolding sum
-all-sums zero levels filtered bytes small = sums-none levels filtered
-all-sums (suc n) levels filtered bytes small =
-    rw add-one at (sums-more levels filtered small (refl, omega (arith, bytes n)) refl (all-sums n levels filtered bytes small))
+abbrev pub flatAt : ℕ → List ℕ → ℕ → ℕ
+flatAt w filtered k = flat filtered (innerPlace w k)
 
--- D of a picture is at most 2^62
-pub spread-most : (n : ℕ) (levels filtered : List ℕ) → n ≤ 1048576 → AtMost 255 levels → AtMost 2040 filtered → natOf (spreadOf n levels filtered) ≤ 2 ^ 62
-spread-most n levels filtered h bytes small = rw (in-naturals n levels filtered) (omega (arith, room (all-sums n levels filtered bytes small) h))
+module _ (w h : ℕ) (levels filtered : List ℕ) where
+  abbrev N : ℕ
+  N = innerPixels w h
+
+  abbrev squaresIn : ℕ
+  squaresIn = squaresOf N (lightAt w levels) (flatAt w filtered)
+
+  abbrev awayIn : ℕ
+  awayIn = awayOf N (lightAt w levels) (flatAt w filtered)
+
+  -- in natural numbers
+  in-naturals : spreadOf w h levels filtered ≡ pos (N * squaresIn - awayIn * awayIn)
+  unfolding spreadOf sumInner
+  in-naturals =
+      let l = light levels in
+      let f = flat filtered in
+      let gap : ℕ → ℕ = λ k. dist (l k) (f k) * dist (l k) (f k) in
+      rw (
+        over-natural (w * h) (counts w h) (λ k. square (difference levels filtered k)) gap (λ k. square-apart (l k) (f k)),
+        over-minus (w * h) (counts w h) l f,
+        over-inner w h gap,
+        over-inner w h l,
+        over-inner w h f,
+        square-apart (sum N (lightAt w levels)) (sum N (flatAt w filtered)),
+        pos-minus (N * squaresIn) (awayIn * awayIn),
+      )
+      (sub-pos (N * squaresIn) (awayIn * awayIn) (never-wraps N (lightAt w levels) (flatAt w filtered)))
+
+  -- never below 0
+  pub never-negative : pos (natOf (spreadOf w h levels filtered)) ≡ spreadOf w h levels filtered
+  never-negative = rw in-naturals
+
+  -- and at most 2^62
+  pub spread-most : N ≤ 1048576 → AtMost 255 levels → AtMost 2040 filtered → natOf (spreadOf w h levels filtered) ≤ 2 ^ 62
+  spread-most few bytes small =
+      let all = all-sums (lightAt w levels) (flatAt w filtered) (λ k. omega (arith, bytes (innerPlace w k))) (λ k. small (innerPlace w k)) N in
+      rw in-naturals (omega (arith, room (lightAt w levels) (flatAt w filtered) all few))
+
+  -- it is what the code makes of the sums of all N
+  pub is-spread : {squares lights flats away : ℕ} → Sums (lightAt w levels) (flatAt w filtered) N squares lights flats → away ≡ dist lights flats
+      → pos (N * squares - away * away) ≡ spreadOf w h levels filtered
+  is-spread s is = rw (is, s .squares-is, s .lights-is, s .flats-is) (sym in-naturals)

@@ -13,7 +13,7 @@ use Rattle.arithmetic.proofs.Sums.{sum-none, sum-more, sum-most}
 use Rattle.picture.proofs.Shapes.{pixels}
 use Rattle.judge.specs.Extremes.{maximum, minimum, tile, overTiles}
 use Rattle.judge.specs.Asked.{Part, Band, part, bandOf, Tiled}
-use Rattle.judge.proofs.Maxima.{maximum-is, minimum-is}
+use Rattle.judge.proofs.Maxima.{put-to-max, put-to-min, maximum-is, minimum-is}
 
 -- a part's values are at most what the picture's are
 pub part-most : (b w columns rows start : ℕ) (filtered : List ℕ) → AtMost b filtered → AtMost b (part w columns rows start filtered)
@@ -39,15 +39,16 @@ pub record Rows (w columns start : ℕ) (filtered : List ℕ) (most least at j :
   pub at-is : at ≡ start + j * w
   pub most-is : most ≡ foldl max 0 (part w columns j start filtered)
   pub least-is : least ≡ foldl min 65535 (part w columns j start filtered)
+  pub least-most : least ≤ 65535
 
 module _ (w columns start : ℕ) (filtered : List ℕ) where
   pub rows-none : Rows w columns start filtered 0 65535 start 0
   unfolding part joined
-  rows-none = record { at-is = omega arith; most-is = refl; least-is = refl }
+  rows-none = record { at-is = omega arith; most-is = refl; least-is = refl; least-most = omega arith }
 
-  -- one row more, as the code takes it
+  -- one row more, as the code takes it, with the row's own extremes
   pub rows-more : (most least at j most' least' : ℕ) → Rows w columns start filtered most least at j
-      → most' ≡ foldl max most (take (at + columns - at) (drop at filtered)) → least' ≡ foldl min least (take (at + columns - at) (drop at filtered))
+      → most' ≡ max most (foldl max 0 (take (at + columns - at) (drop at filtered))) → least' ≡ min least (foldl min 65535 (take (at + columns - at) (drop at filtered)))
       → Rows w columns start filtered most' least' (at + w) (j + 1)
   unfolding part joined
   rows-more most least at j most' least' s b d =
@@ -56,8 +57,9 @@ module _ (w columns start : ℕ) (filtered : List ℕ) where
       let here : take (at + columns - at) (drop at filtered) ≡ row j = rw (long, s .at-is) in
       record {
         at-is = omega (arith, s .at-is, add-mul j 1 w);
-        most-is = rw (add-one, b, here, s .most-is) (sym (foldl-append max 0 (joined j row) (row j)));
-        least-is = rw (add-one, d, here, s .least-is) (sym (foldl-append min 65535 (joined j row) (row j)));
+        most-is = rw (add-one, b, put-to-max most (take (at + columns - at) (drop at filtered)), here, s .most-is) (sym (foldl-append max 0 (joined j row) (row j)));
+        least-is = rw (add-one, d, put-to-min 65535 least (take (at + columns - at) (drop at filtered)) (s .least-most), here, s .least-is) (sym (foldl-append min 65535 (joined j row) (row j)));
+        least-most = omega (arith, d, s .least-most);
       }
 
   -- all rows
@@ -171,7 +173,7 @@ module _ (w h : ℕ) (filtered : List ℕ) where
   pub band-inside : (at b : ℕ) → Tiled w h filtered → at ≡ 0 + b * (h / 4 * w) → b < 4 → Band w (w / 4) (h / 4) at filtered
   band-inside at b t e p =
       let k : b * (h / 4) ≤ 3 * (h / 4) = mul-le-mul-right (h / 4) (omega arith) in
-      let fours = t .by-four in
+      let fours = t .measurable in
       let sides = t .sides in
       let l : b * (h / 4) + h / 4 ≤ h = omega arith in
       record {

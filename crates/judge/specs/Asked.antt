@@ -1,17 +1,17 @@
 -- What the functions inside the crate ask of what they are given, and what their loops have gathered. No promise cites this.
 use mathlib.Core.Path.{_≡_}
 use mathlib.Core.List.{List}
-use Prim.Native.Nat.{ℕ, _+_, _-_, _*_, _≤_}
+use Prim.Native.Nat.{ℕ, _+_, _-_, _*_, _/_, _%_, _≤_}
 use lib.ListN.{length, getD, take, drop}
 use Rattle.arithmetic.specs.Lists.{AtMost, joined}
 use Rattle.arithmetic.specs.Sums.{sum}
 use Rattle.picture.specs.Picture.{Side}
-use Rattle.judge.specs.Measure.{ByFour}
+use Rattle.judge.specs.Measure.{MeasurableSide}
 
--- a filtered picture that can be cut into tiles
+-- a filtered picture that can be cut into tiles, and has pixels that count
 pub record Tiled (w h : ℕ) (filtered : List ℕ) : Type 0 where
   pub sides : Side w × Side h
-  pub by-four : ByFour w h
+  pub measurable : MeasurableSide w × MeasurableSide h
   pub whole : length filtered ≡ w * h
   pub small : AtMost 2_040 filtered
 
@@ -40,31 +40,33 @@ pub record Band (w columns rows start : ℕ) (filtered : List ℕ) : Type 0 wher
   pub inside : start + rows * w ≤ length filtered
   pub long : length filtered ≤ 1_048_576
 
--- at most `bound` levels, and the same number of filtered values, each at most 2,040
-pub record SamePixels (bound : ℕ) (levels filtered : List ℕ) : Type 0 where
+-- at most 1,024 levels, and the same number of filtered values, each at most 2,040
+pub record SamePixels (levels filtered : List ℕ) : Type 0 where
   pub same : length levels ≡ length filtered
-  pub long : length filtered ≤ bound
+  pub long : length filtered ≤ 1_024
   pub small : AtMost 2_040 filtered
 
 -- how far two numbers are apart
 abbrev pub dist : ℕ → ℕ → ℕ
 dist a b = (a - b) + (b - a)
 
--- what stands at pixel k: 8 times the level, the filtered eighths, and how far they are apart
+-- what stands at pixel k: 8 times the level, and the filtered eighths
 abbrev pub light : List ℕ → ℕ → ℕ
 light levels k = 8 * getD levels k 0
 
 abbrev pub flat : List ℕ → ℕ → ℕ
 flat filtered k = getD filtered k 0
 
-abbrev pub gap : List ℕ → List ℕ → ℕ → ℕ
-gap levels filtered k = dist (light levels k) (flat filtered k)
+-- where the k-th of the pixels that count stands: past three rows and three columns, they are rows of w − 6
+abbrev pub innerPlace : ℕ → ℕ → ℕ
+innerPlace w k = (k / (w - 6) + 3) * w + (k % (w - 6) + 3)
 
--- the three sums over the first n pixels: of the squared differences, and of the two terms whose difference d is
-pub record Sums (levels filtered : List ℕ) (n squares lights flats : ℕ) : Type 0 where
-  pub squares-is : squares ≡ sum n (λ k. gap levels filtered k * gap levels filtered k)
-  pub lights-is : lights ≡ sum n (light levels)
-  pub flats-is : flats ≡ sum n (flat filtered)
+-- the three sums over n pixels, of which the k-th has 8 times the level l k and the filtered eighths f k: of the squared differences,
+-- and of the two terms whose difference d is
+pub record Sums (l f : ℕ → ℕ) (n squares lights flats : ℕ) : Type 0 where
+  pub squares-is : squares ≡ sum n (λ k. dist (l k) (f k) * dist (l k) (f k))
+  pub lights-is : lights ≡ sum n l
+  pub flats-is : flats ≡ sum n f
   pub squares-most : squares ≤ n * 4_161_600
   pub lights-most : lights ≤ n * 2_040
   pub flats-most : flats ≤ n * 2_040

@@ -83,21 +83,22 @@ fn part_ends(filtered: &[u16], width: usize, columns: usize, rows: usize, start:
     let mut j = 0usize;
     while j < rows {
         let end = at + columns;
-        let ends = row_ends(&filtered[at..end], most, least);
-        most = ends.most;
-        least = ends.least;
+        // a row by itself, so that it need not wait for the one before it
+        let ends = row_ends(&filtered[at..end]);
+        most = larger(most, ends.most);
+        least = smaller(least, ends.least);
         at += width;
         j += 1;
     }
     Ends { most, least }
 }
 
-// The greatest and the least of a row's values and of those so far.
-fn row_ends(row: &[u16], top: u16, bottom: u16) -> Ends
-    ensures { λ r. ⌜ (r .most ≡ foldl max top (now (row .entry))) × (r .least ≡ foldl min bottom (now (row .entry))) ⌝ }
+// The greatest and the least of a row's values.
+fn row_ends(row: &[u16]) -> Ends
+    ensures { λ r. ⌜ (r .most ≡ foldl max 0 (now (row .entry))) × (r .least ≡ foldl min 65_535 (now (row .entry))) ⌝ }
 {
-    let mut most = top;
-    let mut least = bottom;
+    let mut most = 0u16;
+    let mut least = 65_535u16;
     let mut i = 0usize;
     while i < row.len() {
         let v = row[i];

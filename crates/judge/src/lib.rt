@@ -1,12 +1,14 @@
-// Whether a picture may be measured (document 01, "Extremes and noise"): extremes.rt has the sums M
-// and m of the tiles' extremes, noise.rt has D, ratio.rt the ratio q, found by comparing numbers that
-// outgrow 64 bits, and wide.rt such numbers.
+// Whether a picture may be measured (document 01, "Extremes and noise"; document 02, P3): extremes.rt
+// has the sums M and m of the tiles' extremes, noise.rt has N and D, ratio.rt the ratio q, found by
+// comparing numbers that outgrow 64 bits, and wide.rt such numbers.
+ghost use mathlib.Core.Bool.{true, false};
 ghost use mathlib.Core.Path.{_≡_};
 ghost use Prim.Native.Nat.{_*_};
 ghost use lib.ListN.{length};
+ghost use Rattle.answers.specs.Refusals.{Unless};
 ghost use Rattle.units.specs.Units.{eighths};
 ghost use Rattle.judge.specs.Judge.{Tested, JudgeIs, refused};
-ghost use Rattle.judge.specs.Measure.{Judged, MeasureIs, measurement};
+ghost use Rattle.judge.specs.Measure.{MeasurableSide, Judged, MeasureIs, measurement};
 ghost use Rattle.judge.specs.Asked.{Tiled};
 use answers::table;
 use units::Eighths;
@@ -39,10 +41,10 @@ pub fn measure(
     if number != table::DONE {
         return refuse(number);
     }
-    if width % 4 != 0 {
+    if !measurable(width) {
         return refuse(table::SIDE_NOT_BY_FOUR);
     }
-    if height % 4 != 0 {
+    if !measurable(height) {
         return refuse(table::SIDE_NOT_BY_FOUR);
     }
     // its number is 0: the sizes that it could refuse have been tested
@@ -51,19 +53,30 @@ pub fn measure(
     judge_picture(levels, &output[..n], width, height)
 }
 
+// Whether a side can be cut into tiles, and has more than the three outermost pixels at either end.
+fn measurable(side: usize) -> bool
+    ensures { λ r. ⌜ Unless (MeasurableSide side) (r ≡ false) (r ≡ true) ⌝ }
+{
+    if side < 8 {
+        return false;
+    }
+    side % 4 == 0
+}
+
 // The verdict on a picture and what it was filtered to.
 fn judge_picture(levels: &[u8], filtered: &[u16], width: usize, height: usize) -> Verdict
     requires { ⌜ Tiled width height (now filtered) × (length (now levels) ≡ width * height) ⌝ }
     ensures { λ r. ⌜ Judged (now (levels .entry)) (now (filtered .entry)) width height r ⌝ }
 {
     let sums = extremes::of_tiles(filtered, width, height);
-    let spread = noise::spread(levels, filtered);
-    judge(filtered.len() as u64, sums.bright, sums.dark, spread)
+    let count = noise::inner_pixels(width, height);
+    let spread = noise::spread(levels, filtered, width, height);
+    judge(count, sums.bright, sums.dark, spread)
 }
 
-// Judges a picture by its numbers: `count` is its number of pixels, N; `bright` and `dark` are M and
-// m, the sums of the sixteen tiles' maxima and minima; `spread` is D. Refused by 15 where one is out
-// of range; else 6 to 9 where the picture is discarded.
+// Judges a picture by its numbers: `count` is N, how many of its pixels count for the noise; `bright`
+// and `dark` are M and m, the sums of the sixteen tiles' maxima and minima; `spread` is D. Refused by
+// 15 where one is out of range; else 6 to 9 where the picture is discarded.
 pub fn judge(count: u64, bright: Eighths, dark: Eighths, spread: u64) -> Verdict
     ensures { λ r. ⌜ JudgeIs count bright dark spread r ⌝ }
 {

@@ -1,12 +1,15 @@
-// The noise (document 01: "D = N·(sum of d²) − (sum of d)²"). d is a difference of two terms, 8 times
-// the level and the filtered value, so that its sum is a difference of two sums, and its square that
-// of how far the two are apart: whole numbers from 0 are enough.
+// The noise (document 01: "D = N·(sum of d²) − (sum of d)²"; document 02, P3: "the sum for D leaves out
+// the three outermost rows and columns on each side"). d is a difference of two terms, 8 times the
+// level and the filtered value, so that its sum is a difference of two sums, and its square that of
+// how far the two are apart: whole numbers from 0 are enough.
 ghost use mathlib.Core.Path.{_≡_};
-ghost use Prim.Native.Nat.{_*_, _≤_, min};
+ghost use Prim.Native.Nat.{_*_, _≤_};
 ghost use lib.ListN.{length};
 ghost use lib.IntN.{pos};
-ghost use Rattle.judge.specs.Noise.{spreadOf};
-ghost use Rattle.judge.specs.Asked.{SamePixels, dist, Sums};
+ghost use Rattle.picture.specs.Picture.{Side};
+ghost use Rattle.judge.specs.Noise.{innerPixels, spreadOf};
+ghost use Rattle.judge.specs.Measure.{MeasurableSide};
+ghost use Rattle.judge.specs.Asked.{Tiled, SamePixels, dist, light, flat, Sums};
 
 // The sums over some pixels: of d², of 8 times the levels, and of the filtered values.
 struct ThreeSums {
@@ -15,33 +18,44 @@ struct ThreeSums {
     flats: u32,
 }
 
-// D of a picture and what it was filtered to.
-pub(crate) fn spread(levels: &[u8], filtered: &[u16]) -> u64
-    requires { ⌜ SamePixels 1_048_576 (now levels) (now filtered) ⌝ }
-    ensures { λ r. ⌜ (pos r ≡ spreadOf (length (now (filtered .entry))) (now (levels .entry)) (now (filtered .entry))) × (r ≤ 4_611_686_018_427_387_904) ⌝ }
+// N, the number of a picture's pixels that count: all but three rows and columns on each side.
+pub(crate) fn inner_pixels(width: usize, height: usize) -> u64
+    requires { ⌜ (Side width × Side height) × (MeasurableSide width × MeasurableSide height) ⌝ }
+    ensures { λ r. ⌜ r ≡ innerPixels width height ⌝ }
 {
-    let n = filtered.len();
+    ((width - 6) * (height - 6)) as u64
+}
+
+// D of a picture and what it was filtered to.
+pub(crate) fn spread(levels: &[u8], filtered: &[u16], width: usize, height: usize) -> u64
+    requires { ⌜ Tiled width height (now filtered) × (length (now levels) ≡ width * height) ⌝ }
+    ensures { λ r. ⌜ (pos r ≡ spreadOf width height (now (levels .entry)) (now (filtered .entry))) × (r ≤ 4_611_686_018_427_387_904) ⌝ }
+{
+    let columns = width - 6;
+    let rows = height - 6;
     let mut squares = 0u64;
     let mut lights = 0u64;
     let mut flats = 0u64;
-    let mut at = 0usize;
-    while at < n {
-        let end = smaller(at + 1_024, n);
-        let added = stretch(&levels[at..end], &filtered[at..end]);
+    let mut at = 3 * width + 3;
+    let mut j = 0usize;
+    while j < rows {
+        let end = at + columns;
+        let added = row_sums(&levels[at..end], &filtered[at..end]);
         squares += added.squares as u64;
         lights += added.lights as u64;
         flats += added.flats as u64;
-        at = end;
+        at += width;
+        j += 1;
     }
     let away = apart(lights, flats); // how far the sum of d is from 0
-    (n as u64) * squares - away * away
+    inner_pixels(width, height) * squares - away * away
 }
 
-// The sums over a stretch of at most 1,024 pixels, which have room in 32 bits: so the compiler takes
-// four pixels at once.
-fn stretch(levels: &[u8], filtered: &[u16]) -> ThreeSums
-    requires { ⌜ SamePixels 1_024 (now levels) (now filtered) ⌝ }
-    ensures { λ r. ⌜ Sums (now (levels .entry)) (now (filtered .entry)) (length (now (filtered .entry))) (r .squares) (r .lights) (r .flats) ⌝ }
+// The sums over a row's pixels that count, which have room in 32 bits: so the compiler takes several
+// pixels at once.
+fn row_sums(levels: &[u8], filtered: &[u16]) -> ThreeSums
+    requires { ⌜ SamePixels (now levels) (now filtered) ⌝ }
+    ensures { λ r. ⌜ Sums (light (now (levels .entry))) (flat (now (filtered .entry))) (length (now (filtered .entry))) (r .squares) (r .lights) (r .flats) ⌝ }
 {
     let mut squares = 0u32;
     let mut lights = 0u32;
@@ -80,10 +94,4 @@ fn apart16(a: u16, b: u16) -> u16
     ensures { λ r. ⌜ r ≡ dist a b ⌝ }
 {
     if a < b { b - a } else { a - b }
-}
-
-fn smaller(a: usize, b: usize) -> usize
-    ensures { λ r. ⌜ r ≡ min a b ⌝ }
-{
-    if a < b { a } else { b }
 }

@@ -11,7 +11,7 @@ use native.Mathlib.Omega.{arith}
 use lib.ListN.{length}
 use Rattle.arithmetic.specs.declared.Fraction.{Fraction}
 use Rattle.arithmetic.specs.Greatest.{Least}
-use Rattle.arithmetic.specs.Sums.{sum}
+use Rattle.arithmetic.specs.Sums.{sum, sumOver}
 use Rattle.arithmetic.specs.Fractions.{fraction}
 use Rattle.arithmetic.proofs.Greatest.{not-yet}
 use Rattle.arithmetic.proofs.Fractions.{one-pair-or-not}
@@ -19,7 +19,7 @@ use Rattle.answers.proofs.Refusals.{goes-on}
 use Rattle.arithmetic.proofs.Computed.{when, EveryRow, every-row}
 use Rattle.threshold.specs.declared.Threshold.{Threshold}
 use Rattle.threshold.specs.Histogram.{total}
-use Rattle.threshold.specs.TwoMeans.{level, start, sumOver, round, Rests, threshold, Settled, answered, TwoMeansIs}
+use Rattle.threshold.specs.TwoMeans.{level, start, round, Rests, threshold, Settled, answered, TwoMeansIs}
 use Rattle.threshold.specs.Worked.{histogram, Walk}
 use Rattle.threshold.proofs.Sequence.{within-or-not, rests-or-not}
 use Rattle.threshold.proofs.Demand.{RestsAt, settled}

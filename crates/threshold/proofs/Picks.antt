@@ -6,8 +6,7 @@ use Prim.Native.Nat.{ℕ, zero, suc, _+_, _*_, _<_, _≤_}
 use native.Mathlib.Nat.{eq-or-lt-of-le}
 use native.Mathlib.Omega.{arith}
 use borrow.Author.Tests.{not-true}
-use Rattle.arithmetic.specs.Sums.{sum}
-use Rattle.threshold.specs.TwoMeans.{sumOver}
+use Rattle.arithmetic.specs.Sums.{sum, sumOver}
 
 -- every level that p picks, q picks too
 abbrev pub Sub : (ℕ → Bool) → (ℕ → Bool) → Type 0

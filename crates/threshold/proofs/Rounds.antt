@@ -11,9 +11,10 @@ use lib.ListN.{length}
 use borrow.Author.Tests.{leb-true, leb-false, le-leb}
 use Rattle.arithmetic.specs.declared.Fraction.{Fraction}
 use Rattle.arithmetic.specs.Fractions.{fraction, Proper, Equal, NotMore}
+use Rattle.arithmetic.specs.Sums.{sumOver}
 use Rattle.arithmetic.proofs.Fractions.{not-more-trans, either-way}
 use Rattle.threshold.specs.Histogram.{countOf}
-use Rattle.threshold.specs.TwoMeans.{level, low, high, sumOver, levelSum, mean, round}
+use Rattle.threshold.specs.TwoMeans.{level, low, high, levelSum, mean, round}
 use Rattle.threshold.proofs.Picks.{Sub, beyond, beyond-is, over-in-two, over-le, over-zero, over-times, over-add}
 use Rattle.threshold.proofs.HalfSums.{half-sum-grows, low-same, high-same}
 

@@ -13,10 +13,11 @@ use lib.ListN.{length}
 use borrow.Author.Tests.{le-leb, ltb-false}
 use Rattle.arithmetic.specs.declared.Fraction.{Fraction}
 use Rattle.arithmetic.specs.Fractions.{Proper, Equal, NotMore}
+use Rattle.arithmetic.specs.Sums.{sumOver}
 use Rattle.arithmetic.proofs.Sums.{sum-most}
 use Rattle.arithmetic.proofs.Fractions.{not-more-trans, either-way}
 use Rattle.threshold.specs.Histogram.{countOf, total}
-use Rattle.threshold.specs.TwoMeans.{level, lowest, highest, nearest, start, low, high, sumOver, levelSum, round, Within, Rests, threshold}
+use Rattle.threshold.specs.TwoMeans.{level, lowest, highest, nearest, start, low, high, levelSum, round, Within, Rests, threshold}
 use Rattle.threshold.proofs.Present.{lowest-is, highest-is, lowest-below, highest-below}
 use Rattle.threshold.proofs.Picks.{over-part, over-has, over-le, over-times}
 use Rattle.threshold.proofs.Rounds.{lowNumber, highNumber, round-keeps-order, low-more, high-fewer, same-split}

@@ -10,12 +10,12 @@ use lib.ListN.{length, getD, set}
 use borrow.Author.Tests.{le-leb, lt-leb}
 use Rattle.arithmetic.specs.declared.Fraction.{Fraction}
 use Rattle.arithmetic.specs.Lists.{AtMost}
-use Rattle.arithmetic.specs.Sums.{sum}
+use Rattle.arithmetic.specs.Sums.{sum, sumOver}
 use Rattle.arithmetic.specs.Fractions.{fraction, Proper}
 use Rattle.arithmetic.proofs.Lists.{Written, written-none, written-more}
 use Rattle.arithmetic.proofs.Sums.{sum-none, sum-more, sum-most, sum-same, sum-part}
 use Rattle.threshold.specs.Histogram.{countOf, total}
-use Rattle.threshold.specs.TwoMeans.{highest, low, high, sumOver, levelSum, round, Within}
+use Rattle.threshold.specs.TwoMeans.{highest, low, high, levelSum, round, Within}
 use Rattle.threshold.specs.Asked.{Filled, Tables, Small}
 use Rattle.threshold.proofs.Present.{highest-below}
 use Rattle.threshold.proofs.Picks.{over-rest, over-part}

@@ -11,7 +11,7 @@ use lib.ListN.{length}
 use Rattle.arithmetic.specs.declared.Fraction.{Fraction}
 use Rattle.answers.specs.Refusals.{Unless}
 use Rattle.arithmetic.specs.Greatest.{Least}
-use Rattle.arithmetic.specs.Sums.{sum}
+use Rattle.arithmetic.specs.Sums.{sumOver}
 use Rattle.arithmetic.specs.Fractions.{fraction, Proper, Equal, NotMore}
 use Rattle.threshold.specs.declared.Threshold.{Threshold}
 use Rattle.threshold.specs.Histogram.{countOf, total}
@@ -42,10 +42,6 @@ low T v = leb (v * T .denominator) (T .numerator)
 
 abbrev pub high : Fraction → ℕ → Bool
 high T v = leb (T .numerator) (v * T .denominator)
-
--- the sum of f v over the levels v below n that are picked
-unfoldable pub sumOver : ℕ → (ℕ → Bool) → (ℕ → ℕ) → ℕ
-sumOver n picked f = sum n (λ v. cond (picked v) (f v) 0)
 
 -- what a level adds to the sum of the levels: itself, as often as it was counted
 abbrev pub levelSum : List ℕ → ℕ → ℕ

@@ -8,9 +8,10 @@ use borrow.Author.Needs.{needs}
 use denote.Ref.{now}
 use lib.ListN.{length}
 use lib.Seq.{length-take-le}
+use Rattle.answers.proofs.Refusals.{told-no, told-yes}
 use Rattle.picture.proofs.Shapes.{pixels}
 use Rattle.filter.proofs.Outcomes.{Fits, fits}
-use Rattle.judge.specs.Measure.{ByFour}
+use Rattle.judge.specs.Measure.{MeasurableSide}
 use Rattle.judge.proofs.Measuring.{refused-for-sizes, refused-by-five, tiled, done}
 use Rattle.judge.proofs.measure.Statement.{statement}
 use Rattle.judge.proofs.measure.Tie as tie
@@ -31,23 +32,29 @@ returns c =
 fit : (c : tie.Else1) → let a = c .before .before .before .before .before .args in Fits (length (now (a .levels))) (a .width) (a .height) (length (now (a .output))) (length (now (a .work)))
 fit c = let s = c .before in fits _ _ _ _ _ (s .sizes .result) (c .if1 .left) (s .sizes .ensures)
 
+measurable-requires : tie.Need-measurable-requires
+measurable-requires c κs = search needs
+
 refuse-requires-2 : tie.Need-refuse-requires-2
 refuse-requires-2 c κs = search needs
 
 returns-2 : tie.Need-returns-2
 returns-2 c =
-    let d = c .before .before in
+    let d = c .before .before .before in
     let a = d .before .before .before .before .before .args in
-    refused-by-five (now (a .levels)) (a .width) (a .height) (now (a .output)) (now (a .work)) (fit d) (c .refuse2 .result) (λ fours. c .before .if2 .taken (fours .0)) (c .refuse2 .ensures)
+    refused-by-five (now (a .levels)) (a .width) (a .height) (now (a .output)) (now (a .work)) (fit d) (c .refuse2 .result) (λ sides. told-no (c .before .before .measurable .ensures) (c .before .if2 .taken) (sides .0)) (c .refuse2 .ensures)
+
+measurable-requires-2 : tie.Need-measurable-requires-2
+measurable-requires-2 c κs = search needs
 
 refuse-requires-3 : tie.Need-refuse-requires-3
 refuse-requires-3 c κs = search needs
 
 returns-3 : tie.Need-returns-3
 returns-3 c =
-    let d = c .before .before .before in
+    let d = c .before .before .before .before .before in
     let a = d .before .before .before .before .before .args in
-    refused-by-five (now (a .levels)) (a .width) (a .height) (now (a .output)) (now (a .work)) (fit d) (c .refuse3 .result) (λ fours. c .before .if3 .taken (fours .1)) (c .refuse3 .ensures)
+    refused-by-five (now (a .levels)) (a .width) (a .height) (now (a .output)) (now (a .work)) (fit d) (c .refuse3 .result) (λ sides. told-no (c .before .before .measurable2 .ensures) (c .before .if3 .taken) (sides .1)) (c .refuse3 .ensures)
 
 filter-requires : tie.Need-filter-requires
 filter-requires c κs = search needs
@@ -60,8 +67,11 @@ module _ (c : tie.After-slice-known4) where
   abbrev past-five : tie.Else3
   past-five = called .before .before .before
 
+  abbrev sizes-fit : tie.Else1
+  sizes-fit = past-five .before .before .before .before
+
   abbrev start : tie.Start
-  start = past-five .before .before .before .before .before .before .before
+  start = sizes-fit .before .before .before .before .before
 
   abbrev width : ℕ
   width = start .args .width
@@ -73,10 +83,12 @@ module _ (c : tie.After-slice-known4) where
   output = called .filter .last .1 .1 .1 .0
 
   fit-here : Fits (length (now (start .args .levels))) width height (length (now (start .args .output))) (length (now (start .args .work)))
-  fit-here = fit (past-five .before .before)
+  fit-here = fit sizes-fit
 
-  fours : ByFour width height
-  fours = (past-five .before .if2 .left, past-five .if3 .left)
+  measurable : MeasurableSide width × MeasurableSide height
+  measurable =
+      let wide = past-five .before .before in
+      (told-yes (wide .before .measurable .ensures) (wide .if2 .left), told-yes (past-five .before .measurable2 .ensures) (past-five .if3 .left))
 
   long : width * height ≤ length output
   long = rw (called .filter .kept .1 .1 .1 .0) (fit-here .long-output)
@@ -95,7 +107,7 @@ judge-picture-requires c κs =
     let d = c .before in
     let a = start d .args in
     let g = called d .filter in
-    (tiled (now (a .levels)) (a .width) (a .height) (now (a .output)) (now (a .work)) (fit-here d) (fours d) (g .result) (output d) (g .last .1 .1 .1 .1 .0) (g .ensures), fit-here d .shape .all-levels)
+    (tiled (now (a .levels)) (a .width) (a .height) (now (a .output)) (now (a .work)) (fit-here d) (measurable d) (g .result) (output d) (g .last .1 .1 .1 .1 .0) (g .ensures), fit-here d .shape .all-levels)
 
 same-length : tie.Need-same-length
 same-length c = search needs
@@ -108,7 +120,7 @@ returns-4 c =
     let d = c .before .before in
     let a = start d .args in
     let g = called d .filter in
-    done (now (a .levels)) (a .width) (a .height) (now (a .output)) (now (a .work)) (fit-here d) (fours d) (g .result) (output d) (g .last .1 .1 .1 .1 .0) (g .ensures) (c .judge-picture .result) (c .judge-picture .ensures)
+    done (now (a .levels)) (a .width) (a .height) (now (a .output)) (now (a .work)) (fit-here d) (measurable d) (g .result) (output d) (g .last .1 .1 .1 .1 .0) (g .ensures) (c .judge-picture .result) (c .judge-picture .ensures)
 
 pub measure-spec : {M : Type 1} → statement M
 measure-spec =
@@ -117,8 +129,10 @@ measure-spec =
     sizes-requires
     refuse-requires
     returns
+    measurable-requires
     refuse-requires-2
     returns-2
+    measurable-requires-2
     refuse-requires-3
     returns-3
     filter-requires

@@ -1,6 +1,6 @@
 -- `judge::extremes::part_ends` meets its contract: after each row the two are the extremes of the rows so far. Assumes nothing.
-use Prim.Native.Nat.{_+_, _-_, _≤_}
-use mathlib.Core.Path.{_≡_}
+use Prim.Native.Nat.{_+_, _-_, _≤_, min, max}
+use mathlib.Core.Path.{_≡_, ap, _∙_}
 use native.Mathlib.Omega.{arith}
 use borrow.Author.Needs.{needs}
 use denote.Ref.{now}
@@ -44,8 +44,14 @@ part-row-ends-end c = omega (arith, inside c)
 row-ends-requires : tie.Need-row-ends-requires Inv-loop μ-loop
 row-ends-requires c κs = search needs
 
+larger-requires : tie.Need-larger-requires Inv-loop μ-loop
+larger-requires c κs = search needs
+
+smaller-requires : tie.Need-smaller-requires Inv-loop μ-loop
+smaller-requires c κs = search needs
+
 add-at : tie.Need-add-at Inv-loop μ-loop
-add-at c = let d = c .before .before in omega (arith, inside d, d .before .before .before .pre .row-long)
+add-at c = let d = c .before .before .before .before in omega (arith, inside d, d .before .before .before .pre .row-long)
 
 add-j : tie.Need-add-j Inv-loop μ-loop
 add-j c = omega arith
@@ -55,11 +61,14 @@ loop-less c = omega arith
 
 loop-again : tie.Need-loop-again Inv-loop μ-loop
 loop-again c =
-    let a = c .before .before .before .before .before .args in
-    let o = c .before .before .before .loop in
-    let r = c .row-ends in (
+    let row = c .before .before in
+    let loop = row .before .before .before in
+    let a = loop .before .before .args in
+    let o = loop .loop in
+    let r = row .row-ends in (
       omega arith,
-      rows-more (a .width) (a .columns) (a .start) (now (a .filtered)) (o .most) (o .least) (o .at) (o .j) (r .result .most) (r .result .least) (o .inv .1) (r .ensures .0) (r .ensures .1),
+      rows-more (a .width) (a .columns) (a .start) (now (a .filtered)) (o .most) (o .least) (o .at) (o .j) (c .before .larger .result) (c .smaller .result) (o .inv .1)
+          (c .before .larger .ensures ∙ ap (max (o .most)) (r .ensures .0)) (c .smaller .ensures ∙ ap (min (o .least)) (r .ensures .1)),
     )
 
 returns : tie.Need-returns Inv-loop μ-loop
@@ -83,6 +92,8 @@ part-ends-spec =
     part-row-ends-start
     part-row-ends-end
     row-ends-requires
+    larger-requires
+    smaller-requires
     add-at
     add-j
     loop-less

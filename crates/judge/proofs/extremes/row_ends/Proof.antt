@@ -12,11 +12,11 @@ use Rattle.judge.proofs.extremes.row_ends.Statement.{statement}
 use Rattle.judge.proofs.extremes.row_ends.Tie as tie
 
 abbrev Inv-loop : tie.InvT-loop
-Inv-loop row top bottom most₀ least₀ i₀ most least i =
-    (i ≤ length row) × (foldl max most (drop i row) ≡ foldl max top row) × (foldl min least (drop i row) ≡ foldl min bottom row)
+Inv-loop row most₀ least₀ i₀ most least i =
+    (i ≤ length row) × (foldl max most (drop i row) ≡ foldl max 0 row) × (foldl min least (drop i row) ≡ foldl min 65535 row)
 
 abbrev μ-loop : tie.MeasureT-loop
-μ-loop row top bottom most₀ least₀ i₀ most least i = length row - i
+μ-loop row most₀ least₀ i₀ most least i = length row - i
 
 loop-holds : tie.Need-loop-holds Inv-loop μ-loop
 loop-holds c = (omega arith, refl, refl)

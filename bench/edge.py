@@ -1,4 +1,4 @@
-"""Which rule a median filter has at the rim: found out from what it makes of a small picture."""
+"""Which rule a median filter has at the edge: found out from what it makes of a small picture."""
 import statistics
 import sys
 from pathlib import Path

@@ -1,22 +1,22 @@
--- `judge::noise::stretch` meets its contract: each pixel adds to the three sums, which have room for 1,024. Assumes nothing.
+-- `judge::noise::row_sums` meets its contract: each pixel adds to the three sums, which have room for 1,024. Assumes nothing.
 use Prim.Native.Nat.{_-_, _≤_}
 use native.Mathlib.Omega.{arith}
 use borrow.Author.Needs.{needs}
 use denote.Ref.{now}
 use lib.ListN.{length}
-use Rattle.judge.specs.Asked.{Sums}
+use Rattle.judge.specs.Asked.{light, flat, Sums}
 use Rattle.judge.proofs.Spreads.{sums-none, sums-more, sums-done}
-use Rattle.judge.proofs.noise.stretch.Statement.{statement}
-use Rattle.judge.proofs.noise.stretch.Tie as tie
+use Rattle.judge.proofs.noise.row_sums.Statement.{statement}
+use Rattle.judge.proofs.noise.row_sums.Tie as tie
 
 abbrev Inv-loop : tie.InvT-loop
-Inv-loop levels filtered squares₀ lights₀ flats₀ k₀ squares lights flats k = (k ≤ length filtered) × Sums levels filtered k squares lights flats
+Inv-loop levels filtered squares₀ lights₀ flats₀ k₀ squares lights flats k = (k ≤ length filtered) × Sums (light levels) (flat filtered) k squares lights flats
 
 abbrev μ-loop : tie.MeasureT-loop
 μ-loop levels filtered squares₀ lights₀ flats₀ k₀ squares lights flats k = length filtered - k
 
 loop-holds : tie.Need-loop-holds Inv-loop μ-loop
-loop-holds c = let a = c .before .before .args in (omega arith, sums-none (now (a .levels)) (now (a .filtered)))
+loop-holds c = let a = c .before .before .args in (omega arith, sums-none (light (now (a .levels))) (flat (now (a .filtered))))
 
 shared-slice-read-eight-times : tie.Need-shared-slice-read-eight-times Inv-loop μ-loop
 shared-slice-read-eight-times c = omega arith
@@ -40,7 +40,7 @@ loop-again c =
     let loop = lit .before .before .before in
     let s = loop .before .before .before in
     let a = s .args in
-    (omega arith, sums-more (now (a .levels)) (now (a .filtered)) (s .pre .small) (lit .eight-times .ensures) (c .apart16 .ensures) (loop .loop .inv .1))
+    (omega arith, sums-more (light (now (a .levels))) (flat (now (a .filtered))) (s .pre .small (loop .loop .k)) (lit .eight-times .ensures) (c .apart16 .ensures) (loop .loop .inv .1))
 
 cast-gap : tie.Need-cast-gap Inv-loop μ-loop
 cast-gap c = omega arith
@@ -70,10 +70,10 @@ loop-less : tie.Need-loop-less Inv-loop μ-loop
 loop-less c = omega arith
 
 returns : tie.Need-returns Inv-loop μ-loop
-returns c = let loop = c .before .loop in sums-done (loop .inv .0) (c .loop-test .left) (loop .inv .1)
+returns c = let loop = c .before .loop in sums-done _ _ (loop .inv .0) (c .loop-test .left) (loop .inv .1)
 
-pub stretch-spec : {M : Type 1} → statement M
-stretch-spec =
+pub row-sums-spec : {M : Type 1} → statement M
+row-sums-spec =
     tie.close
     (tie.spec
     Inv-loop

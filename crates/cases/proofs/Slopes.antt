@@ -1,0 +1,119 @@
+-- Why document 02, P3, leaves the rim out: "near the edge the block is lopsided, so a plain slope in the picture counts as noise there".
+-- Two pictures of 12×12 that have no noise at all, a plain slope and a folded one. The filter changes only their first and their last
+-- column; over the pixels that count D is 0, and over all of them it was not. Assumes nothing.
+use mathlib.Core.Path.{_≡_, refl, ap, _∙_}
+use mathlib.Core.Bool.{true, _||_, not}
+use mathlib.Core.List.{List, [], _∷_}
+use mathlib.Core.Option.{get}
+use Prim.Native.Nat.{ℕ, _*_, _<_, _≤_}
+use lib.Dec.{eqb, eqb→eq, lit≤}
+use lib.IntN.{ℤ, pos, _-ℤ_, _*ℤ_}
+use lib.ListN.{length, getD}
+use Rattle.arithmetic.specs.Lists.{joined}
+use Rattle.arithmetic.specs.Signed.{natOf, square}
+use Rattle.arithmetic.specs.Sums.{sum, sumℤ, sumOverℤ}
+use Rattle.arithmetic.proofs.Computed.{each}
+use Rattle.units.specs.Units.{eighths}
+use Rattle.filter.specs.Filter.{passThree}
+use Rattle.filter.proofs.Outcomes.{Fits}
+use Rattle.filter.proofs.Examples.{three-holds, row as filter-row}
+use Rattle.judge.specs.declared.Verdict.{Verdict}
+use Rattle.judge.specs.Extremes.{maximum, minimum, tile, overTiles, bright, dark}
+use Rattle.judge.specs.Noise.{counts, difference, sumInner, spreadOf}
+use Rattle.judge.specs.Judge.{verdict, refused, JudgeIs}
+use Rattle.judge.specs.Measure.{MeasurableSide, Judged, Measurement, MeasureIs}
+use Rattle.judge.proofs.Outcomes.{without-noise, when-measured}
+use Rattle.judge.proofs.Examples.{holds as judge-holds, row as judge-row}
+
+-- D as it was before the request, over all w·h pixels. It stands in this example alone.
+abbrev pub spreadWithRim : ℕ → ℕ → List ℕ → List ℕ → ℤ
+spreadWithRim w h levels filtered =
+    (pos (w * h) *ℤ sumℤ (w * h) (λ k. square (difference levels filtered k))) -ℤ square (sumℤ (w * h) (difference levels filtered))
+
+-- a picture of twelve rows that are all the same
+abbrev pub twelve : List ℕ → List ℕ
+twelve row = joined 12 (λ j. row)
+
+-- ---- a plain slope: each column is 20 levels brighter than the one before it
+abbrev pub slope : List ℕ
+slope = twelve (0 ∷ 20 ∷ 40 ∷ 60 ∷ 80 ∷ 100 ∷ 120 ∷ 140 ∷ 160 ∷ 180 ∷ 200 ∷ 220 ∷ [])
+
+-- in eighths it is 8 times that, but for the first and the last column, whose blocks have no column on the other side
+abbrev pub slopeEighths : List ℕ
+slopeEighths = twelve (140 ∷ 160 ∷ 320 ∷ 480 ∷ 640 ∷ 800 ∷ 960 ∷ 1120 ∷ 1280 ∷ 1440 ∷ 1600 ∷ 1620 ∷ [])
+
+pub slope-filtered : passThree 12 12 slope ≡ slopeEighths
+unfolding joined three-holds
+slope-filtered = get (three-holds (filter-row 12 12 slope slopeEighths)) tt
+
+-- so every pixel that counts is as it was
+pub slope-kept : (k : ℕ) → k < 144 → counts 12 12 k ≡ true → 8 * getD slope k 0 ≡ getD slopeEighths k 0
+unfolding joined
+slope-kept k less in-it = eqb→eq _ _ (rw in-it at (each (λ k. not (counts 12 12 k) || eqb (8 * getD slope k 0) (getD slopeEighths k 0)) 144 tt k less))
+
+-- no noise; but with the rim there was some
+pub slope-quiet : spreadOf 12 12 slope slopeEighths ≡ pos 0
+unfolding joined sumℤ sumOverℤ sumInner spreadOf
+slope-quiet = refl
+
+pub slope-with-rim : spreadWithRim 12 12 slope slopeEighths ≡ pos 67737600
+unfolding joined sumℤ
+slope-with-rim = refl
+
+-- ---- a slope that is folded so that every tile has a dark and a bright column: its extremes pass
+abbrev pub folded : List ℕ
+folded = twelve (20 ∷ 125 ∷ 230 ∷ 230 ∷ 125 ∷ 20 ∷ 20 ∷ 125 ∷ 230 ∷ 230 ∷ 125 ∷ 20 ∷ [])
+
+abbrev pub foldedEighths : List ℕ
+foldedEighths = twelve (895 ∷ 1000 ∷ 1840 ∷ 1840 ∷ 1000 ∷ 160 ∷ 160 ∷ 1000 ∷ 1840 ∷ 1840 ∷ 1000 ∷ 895 ∷ [])
+
+pub folded-filtered : passThree 12 12 folded ≡ foldedEighths
+unfolding joined three-holds
+folded-filtered = get (three-holds (filter-row 12 12 folded foldedEighths)) tt
+
+pub folded-quiet : spreadOf 12 12 folded foldedEighths ≡ pos 0
+unfolding joined sumℤ sumOverℤ sumInner spreadOf
+folded-quiet = refl
+
+pub folded-with-rim : spreadWithRim 12 12 folded foldedEighths ≡ pos 1555848000
+unfolding joined sumℤ
+folded-with-rim = refl
+
+folded-bright : overTiles maximum 12 12 foldedEighths ≡ 29440
+unfolding joined sum maximum tile overTiles
+folded-bright = refl
+
+folded-dark : overTiles minimum 12 12 foldedEighths ≡ 8440
+unfolding joined sum minimum tile overTiles
+folded-dark = refl
+
+folded-long : length folded ≡ 144
+unfolding joined
+folded-long = refl
+
+-- measured, it is discarded by 8, as a picture without noise is; with any buffers that are long enough
+pub folded-measured : (output work : List ℕ) → 144 ≤ length output → 144 ≤ length work → (r : Measurement) → MeasureIs folded 12 12 output work r
+    → r .verdict ≡ refused 8
+folded-measured output work long-output long-work r is =
+    without-noise 36 (bright 12 12 foldedEighths) (dark 12 12 foldedEighths) (r .verdict) (rw quiet at (judged .in-range))
+    (rw folded-bright (lit≤ tt, lit≤ tt)) (rw folded-dark (lit≤ tt, lit≤ tt)) (rw quiet at (judged .verdict-is))
+  where
+    fits : Fits (length folded) 12 12 (length output) (length work)
+    fits = record { shape = record { sides = (side, side); all-levels = folded-long }; long-output = long-output; long-work = long-work }
+      where
+        side : (1 ≤ 12) × (12 ≤ 1024)
+        side = (lit≤ tt, lit≤ tt)
+
+    measurable : MeasurableSide 12
+    measurable = (refl, lit≤ tt)
+
+    judged : Judged folded foldedEighths 12 12 (r .verdict)
+    judged = rw folded-filtered at (when-measured folded 12 12 output work r fits (measurable, measurable) is .judged)
+
+    quiet : judged .spread ≡ 0
+    quiet = ap natOf (judged .spread-is ∙ folded-quiet)
+
+-- with the rim it was discarded by 9, at a ratio of 3.41: for noise that is not there
+pub folded-was : (v : Verdict) → JudgeIs 144 (eighths 29440) (eighths 8440) 1555848000 v → v ≡ verdict 9 341
+unfolding judge-holds
+folded-was = get (judge-holds (judge-row 144 29440 8440 1555848000 9 341)) tt
