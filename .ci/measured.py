@@ -4,7 +4,7 @@ from fractions import Fraction
 from math import isqrt
 
 import rules  # of the second program, which .ci/pages has put on the path
-from reading import apart, drawn, listed, mixed, page, row, rows, unsaid
+from reading import TOP, apart, drawn, listed, mixed, page, row, rows, unsaid
 
 SMALL, LARGE = 4, 8  # the sides of the two pictures: the one that is refused, the one that is measured
 DARK, BRIGHT = 70, 250  # the levels of the larger one, but for its noise
@@ -220,4 +220,11 @@ def compared():
         f'has one that gets an {number}, and a {another} where the rim counts.')
 
 
-TESTS = refused, larger, extremes, noise, ratio, rim, slopes, compared
+def proved():
+    """crates/cases/proofs/Measured.antt has the larger picture of for-students.md, its eighths and its ratio"""
+    now, source = Larger(), ' '.join((TOP / 'crates/cases/proofs/Measured.antt').read_text(encoding='utf-8').split())
+    return unsaid(source, f'larger = {" ∷ ".join(map(str, now.levels))} ∷ []', f'largerEighths = {" ∷ ".join(map(str, now.eighths))} ∷ []',
+                  f'larger-measured : Measures {LARGE} {LARGE} larger (verdict {now.number} {now.ratio})')
+
+
+TESTS = refused, larger, extremes, noise, ratio, rim, slopes, compared, proved

@@ -1,16 +1,16 @@
 -- Why document 02, P3, leaves the rim out: "near the edge the block is lopsided, so a plain slope in the picture counts as noise there".
 -- Two pictures of 12×12 that have no noise at all, a plain slope and a folded one. The filter changes only their first and their last
 -- column; over the pixels that count D is 0, and over all of them it was not. Assumes nothing.
-use mathlib.Core.Path.{_≡_, refl, ap, _∙_}
+use mathlib.Core.Path.{_≡_, refl}
 use mathlib.Core.Bool.{true, _||_, not}
 use mathlib.Core.List.{List, [], _∷_}
 use mathlib.Core.Option.{get}
-use Prim.Native.Nat.{ℕ, _*_, _<_, _≤_}
+use Prim.Native.Nat.{ℕ, _*_, _<_}
 use lib.Dec.{eqb, eqb→eq, lit≤}
 use lib.IntN.{ℤ, pos, _-ℤ_, _*ℤ_}
 use lib.ListN.{length, getD}
 use Rattle.arithmetic.specs.Lists.{joined}
-use Rattle.arithmetic.specs.Signed.{natOf, square}
+use Rattle.arithmetic.specs.Signed.{square}
 use Rattle.arithmetic.specs.Sums.{sum, sumℤ, sumOverℤ}
 use Rattle.arithmetic.proofs.Computed.{each}
 use Rattle.units.specs.Units.{eighths}
@@ -18,12 +18,12 @@ use Rattle.filter.specs.Filter.{passThree}
 use Rattle.filter.proofs.Outcomes.{Fits}
 use Rattle.filter.proofs.Examples.{three-holds, row as filter-row}
 use Rattle.judge.specs.declared.Verdict.{Verdict}
-use Rattle.judge.specs.Extremes.{maximum, minimum, tile, overTiles, bright, dark}
+use Rattle.judge.specs.Extremes.{maximum, minimum, tile, overTiles}
 use Rattle.judge.specs.Noise.{counts, difference, sumInner, spreadOf}
 use Rattle.judge.specs.Judge.{verdict, refused, JudgeIs}
-use Rattle.judge.specs.Measure.{MeasurableSide, Judged, Measurement, MeasureIs}
-use Rattle.judge.proofs.Outcomes.{without-noise, when-measured}
+use Rattle.judge.specs.Measure.{MeasurableSide}
 use Rattle.judge.proofs.Examples.{holds as judge-holds, row as judge-row}
+use Rattle.cases.proofs.Measured.{Measures, measures}
 
 -- D as it was before the request, over all w·h pixels. It stands in this example alone.
 abbrev pub spreadWithRim : ℕ → ℕ → List ℕ → List ℕ → ℤ
@@ -60,6 +60,19 @@ pub slope-with-rim : spreadWithRim 12 12 slope slopeEighths ≡ pos 67737600
 unfolding joined sumℤ
 slope-with-rim = refl
 
+-- what a picture of twelve such rows has to be measured
+fitting : (levels : List ℕ) → length levels ≡ 144 → Fits (length levels) 12 12 144 144
+fitting levels all =
+    record { shape = record { sides = ((lit≤ tt, lit≤ tt), (lit≤ tt, lit≤ tt)); all-levels = all }; long-output = lit≤ tt; long-work = lit≤ tt }
+
+sides : MeasurableSide 12 × MeasurableSide 12
+sides = ((refl, lit≤ tt), (refl, lit≤ tt))
+
+-- measured, it is discarded by 6, before its noise is looked at: a tile has only a quarter of the slope's climb
+pub slope-measured : Measures 12 12 slope (refused 6)
+unfolding joined sum maximum minimum tile overTiles sumℤ sumOverℤ sumInner spreadOf judge-holds
+slope-measured = measures 12 12 slope slopeEighths (refused 6) (fitting slope refl) sides slope-filtered (get (judge-holds (judge-row 36 16080 12080 0 6 0)) tt)
+
 -- ---- a slope that is folded so that every tile has a dark and a bright column: its extremes pass
 abbrev pub folded : List ℕ
 folded = twelve (20 ∷ 125 ∷ 230 ∷ 230 ∷ 125 ∷ 20 ∷ 20 ∷ 125 ∷ 230 ∷ 230 ∷ 125 ∷ 20 ∷ [])
@@ -79,39 +92,10 @@ pub folded-with-rim : spreadWithRim 12 12 folded foldedEighths ≡ pos 155584800
 unfolding joined sumℤ
 folded-with-rim = refl
 
-folded-bright : overTiles maximum 12 12 foldedEighths ≡ 29440
-unfolding joined sum maximum tile overTiles
-folded-bright = refl
-
-folded-dark : overTiles minimum 12 12 foldedEighths ≡ 8440
-unfolding joined sum minimum tile overTiles
-folded-dark = refl
-
-folded-long : length folded ≡ 144
-unfolding joined
-folded-long = refl
-
--- measured, it is discarded by 8, as a picture without noise is; with any buffers that are long enough
-pub folded-measured : (output work : List ℕ) → 144 ≤ length output → 144 ≤ length work → (r : Measurement) → MeasureIs folded 12 12 output work r
-    → r .verdict ≡ refused 8
-folded-measured output work long-output long-work r is =
-    without-noise 36 (bright 12 12 foldedEighths) (dark 12 12 foldedEighths) (r .verdict) (rw quiet at (judged .in-range))
-    (rw folded-bright (lit≤ tt, lit≤ tt)) (rw folded-dark (lit≤ tt, lit≤ tt)) (rw quiet at (judged .verdict-is))
-  where
-    fits : Fits (length folded) 12 12 (length output) (length work)
-    fits = record { shape = record { sides = (side, side); all-levels = folded-long }; long-output = long-output; long-work = long-work }
-      where
-        side : (1 ≤ 12) × (12 ≤ 1024)
-        side = (lit≤ tt, lit≤ tt)
-
-    measurable : MeasurableSide 12
-    measurable = (refl, lit≤ tt)
-
-    judged : Judged folded foldedEighths 12 12 (r .verdict)
-    judged = rw folded-filtered at (when-measured folded 12 12 output work r fits (measurable, measurable) is .judged)
-
-    quiet : judged .spread ≡ 0
-    quiet = ap natOf (judged .spread-is ∙ folded-quiet)
+-- measured, it is discarded by 8, as a picture without noise is
+pub folded-measured : Measures 12 12 folded (refused 8)
+unfolding joined sum maximum minimum tile overTiles sumℤ sumOverℤ sumInner spreadOf judge-holds
+folded-measured = measures 12 12 folded foldedEighths (refused 8) (fitting folded refl) sides folded-filtered (get (judge-holds (judge-row 36 29440 8440 0 8 0)) tt)
 
 -- with the rim it was discarded by 9, at a ratio of 3.41: for noise that is not there
 pub folded-was : (v : Verdict) → JudgeIs 144 (eighths 29440) (eighths 8440) 1555848000 v → v ≡ verdict 9 341

@@ -1,6 +1,7 @@
--- The judge as one table, which antt computes, with the ends of its ranges; and two small filtered pictures, cut into tiles. What
--- document 01 marks stands in cases/specs/Cases.antt, and is tested by `holds`. Assumes nothing.
+-- The judge as one table, which antt computes, with the ends of its ranges; two small filtered pictures, cut into tiles; and which pixels
+-- of two small pictures count. What document 01 marks stands in cases/specs/Cases.antt, and is tested by `holds`. Assumes nothing.
 use mathlib.Core.Path.{_≡_, refl}
+use mathlib.Core.Bool.{cond}
 use mathlib.Core.List.{List, [], _∷_}
 use mathlib.Core.Logic.{inl, Dec·and, Dec·not}
 use mathlib.Core.Option.{Option, none, Option·map, get}
@@ -14,6 +15,7 @@ use Rattle.arithmetic.proofs.Computed.{when, unless, EveryRow, every-row}
 use Rattle.units.specs.Units.{eighths}
 use Rattle.judge.specs.declared.Verdict.{Verdict}
 use Rattle.judge.specs.Extremes.{maximum, minimum, tile, overTiles}
+use Rattle.judge.specs.Noise.{counts}
 use Rattle.judge.specs.Judge.{InRange, Rated, verdict, refused, JudgeIs}
 use Rattle.judge.proofs.Ratios.{reaches-falls}
 use Rattle.judge.proofs.Outcomes.{one-judge}
@@ -104,3 +106,11 @@ values =
 pub tiles : (overTiles maximum 8 4 values ≡ 272) × (overTiles minimum 8 4 values ≡ 256) × (overTiles maximum 4 8 values ≡ 296) × (overTiles minimum 4 8 values ≡ 232)
 unfolding joined sum maximum minimum tile overTiles
 tiles = (refl, refl, refl, refl)
+
+-- ---- the places that count, of a picture 9 wide and 8 high, and of one 8 wide and 9 high
+abbrev pub placesThatCount : ℕ → ℕ → List ℕ
+placesThatCount w h = joined (w * h) (λ k. cond (counts w h k) (k ∷ []) [])
+
+pub counting : (placesThatCount 9 8 ≡ 30 ∷ 31 ∷ 32 ∷ 39 ∷ 40 ∷ 41 ∷ []) × (placesThatCount 8 9 ≡ 27 ∷ 28 ∷ 35 ∷ 36 ∷ 43 ∷ 44 ∷ [])
+unfolding joined
+counting = (refl, refl)
