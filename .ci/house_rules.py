@@ -8,7 +8,7 @@ import subprocess
 
 from promises import Page
 from tree import brought, items, outside, parted, source
-from words import all_there, own_words, short_notes
+from words import all_there, one_name, short_notes
 
 # The calls whose result no contract can determine, as docs/PROMISES.md says in a part "Not determined": no others.
 UNDETERMINED = ('streams::read',)
@@ -335,7 +335,7 @@ def small_rooms(tree):
 
 
 RULES = (layout, no_requires, has_ensures, promised, determined, wrong_programs, telling_edits, one_table, one_version, one_bound,
-         declared, readme, contract_alone, small_rooms, short_notes, own_words, all_there)
+         declared, readme, contract_alone, small_rooms, short_notes, one_name, all_there)
 
 
 def broken(rule, tree):

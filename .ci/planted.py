@@ -286,19 +286,17 @@ CONTRACT_ALONE = [
     fine(at_end('crates.txt', 'more: arithmetic\n'), at_end('crates/more/src/lib.rt', 'use filter as f;\n')),
 ]
 
-# Every word of the list, in some place that the rule looks through.
-WORDS = ('a prototype', 'A fixed interface', 'as its brief says', 'a later request', 'outside the repository', 'the issue', 'Issues are',
-         'this session', 'two sessions', 'a helper', 'Document 90', 'the C face')
+# Another name of the C door, in some place that the rule looks through.
+WORDS = 'the C face', 'A C face', 'by the C Face,'
 PLACES = (README, PAGE, HEADER, PICTURE, VERDICTS, 'crates.txt', 'docs/landings/new.md', 'examples/c/filter.c', 'bench/README.md',
           'bench/new/one.py', 'second/rules.py', 'crates/filter/must-fail/zero-padding.edit', 'crates/new/src/main.rt', '.ci/run')
 NO_PLACES = '.ci/planted.py', 'bench/target/x.py', 'second/target/new.py', 'docs/drawings/new.svg', 'crates/filter/notes.txt'
-OWN_WORDS = [
+ONE_NAME = [
     *[fault(README, at_end(README, f'\n{word}\n')) for word in WORDS],
     *[fault(place, at_end(place, f'\n// {WORDS[0]}\n')) for place in PLACES],
     *[fault(PICTURE, at_end(PICTURE, f'\n// the C\n{mark} face\n')) for mark in ('//', '--', '#', ' *', '')],
-    # what sounds like one of them, and what is no page
-    *[fine(at_end(README, f'\n{word}\n')) for word in (
-        'an obsession', 'the issued numbers', 'tissues', 'an interface', 'in brief', 'a public face', 'document 901')],
+    # what sounds like it, and what is no page
+    *[fine(at_end(README, f'\n{word}\n')) for word in ('a public face', 'a C facet', 'DC faces', 'an interface')],
     *[fine(at_end(place, f'\n{WORDS[0]}\n')) for place in NO_PLACES],
 ]
 
@@ -326,7 +324,7 @@ PLANTED = {
     'declared': DECLARED,
     'readme': READ_ME,
     'contract_alone': CONTRACT_ALONE,
-    'own_words': OWN_WORDS,
+    'one_name': ONE_NAME,
     'all_there': ALL_THERE,
     'small_rooms': [fault(PICTURE, at_end(PICTURE, '//\n' * 400)), fault(VERDICTS, at_end(VERDICTS, '--\n' * 400))],
     'short_notes': [fault('landings/filter.md', at_end('docs/landings/filter.md', '\n' * 20)),

@@ -35,14 +35,13 @@ def found_in(path, pattern, _changed):
     return tuple(found.group() for found in pattern.finditer(text))
 
 
-# Words that say how the work is done, and a second name of the C door.
-OF_THE_WORK = re.compile(r'\b(?:prototypes?|sessions?|issues?|helpers?|(?:its|the|a) brief|fixed interface|later requests?'
-                         r'|outside the repository|document 90|C face)\b', re.I)
+# A second name of the C door.
+ANOTHER_NAME = re.compile(r'\bC face\b', re.I)
 
 
-def own_words(tree):
-    """the pages and sources speak of the project alone, and not of how the work on it is done"""
-    return [f'{path.relative_to(tree.top)}: {words}' for path, words in said(tree, OF_THE_WORK) if path.name != 'words.py']
+def one_name(tree):
+    """the C door has one name in the pages and sources"""
+    return [f'{path.relative_to(tree.top)}: {words}' for path, words in said(tree, ANOTHER_NAME) if path.name != 'words.py']
 
 
 # The name of a page, a path up from where it stands, and one into somebody's own folders.

@@ -2,8 +2,8 @@
 
 These are typed from the document ("What a student can work by hand") and not computed: they hold
 this second program to the paper, as the comparison holds the first program to this one. (Some are
-worked out from a sentence: a sample on a pixel is the pixel's own level, and a scan gives out the rows of
-the same pictures, each when document 02 says.)
+worked out from a sentence: a sample on a pixel is the pixel's own level, a scan gives out the rows of
+the same pictures, each when document 02 says, and one pixel that is changed is noise where it says.)
 Each row: the call, its arguments, what comes back. The rows of RECORDS are whole inputs of the program
 `gongspindle`, and the lines that the document and the project's decisions say.
 """

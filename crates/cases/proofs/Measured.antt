@@ -1,14 +1,17 @@
--- Pictures that are measured, computed by antt: what the promise of measuring permits of one whose eighths, N, M, m and D are known; and
--- the larger picture of docs/for-students.md. Assumes nothing.
-use mathlib.Core.Path.{_≡_, refl, ap, subst}
+-- Pictures that are measured, computed by antt: a test that finds the one verdict which the promise of measuring permits; and the larger
+-- picture of docs/for-students.md. Assumes nothing.
+use mathlib.Core.Path.{_≡_, ap, subst}
 use mathlib.Core.List.{List, [], _∷_}
-use mathlib.Core.Option.{get}
-use Prim.Native.Nat.{ℕ, _*_, _≤_}
-use lib.Dec.{lit≤}
+use mathlib.Core.Logic.{Dec·and}
+use mathlib.Core.Option.{Option, none, some, Option·map, get}
+use Prim.Native.Nat.{ℕ, _*_, _%_, _≤_}
+use native.Mathlib.Decide.{decLe, ℕ-discrete}
+use native.Mathlib.Omega.{arith}
 use lib.ListN.{length}
 use Rattle.arithmetic.specs.Lists.{joined}
 use Rattle.arithmetic.specs.Signed.{natOf}
 use Rattle.arithmetic.specs.Sums.{sum, sumℤ, sumOverℤ}
+use Rattle.arithmetic.proofs.Computed.{when}
 use Rattle.filter.specs.Filter.{passThree}
 use Rattle.filter.proofs.Outcomes.{Fits}
 use Rattle.filter.proofs.Examples.{three-holds, row as filter-row}
@@ -25,21 +28,51 @@ abbrev pub Measures : ℕ → ℕ → List ℕ → Verdict → Type 0
 Measures w h levels v =
     (output work : List ℕ) → w * h ≤ length output → w * h ≤ length work → (r : Measurement) → MeasureIs levels w h output work r → r .verdict ≡ v
 
--- the judge's verdict on the picture's own numbers, and no other
+-- whatever the judge's promise permits of the picture's own numbers is this verdict
 abbrev pub Judges : ℕ → ℕ → List ℕ → List ℕ → Verdict → Type 0
 Judges w h levels filtered v =
     (u : Verdict) → JudgeIs (innerPixels w h) (bright w h filtered) (dark w h filtered) (natOf (spreadOf w h levels filtered)) u → u ≡ v
 
--- so a picture of sides that can be measured has the verdict on what it is filtered to
-pub measures : (w h : ℕ) (levels filtered : List ℕ) (v : Verdict) → Fits (length levels) w h (w * h) (w * h) → MeasurableSide w × MeasurableSide h
-    → passThree w h levels ≡ filtered → Judges w h levels filtered v → Measures w h levels v
-measures w h levels filtered v fits sides three only output work long-output long-work r is =
+-- a picture that 1, 2 and 5 do not refuse
+abbrev pub Good : ℕ → ℕ → ℕ → Type 0
+Good levels w h = ((MeasurableSide w × MeasurableSide h) × ((w ≤ 1024) × (h ≤ 1024))) × (levels ≡ w * h)
+
+-- it has the judge's verdict on what it is filtered to
+pub measures : (w h : ℕ) (levels filtered : List ℕ) (v : Verdict) → Good (length levels) w h → passThree w h levels ≡ filtered → Judges w h levels filtered v
+    → Measures w h levels v
+measures w h levels filtered v good three only output work long-output long-work r is =
     only (r .verdict) (subst (λ (D : ℕ). JudgeIs (innerPixels w h) (bright w h filtered) (dark w h filtered) D (r .verdict)) (ap natOf (judged .spread-is)) (judged .verdict-is))
   where
+    fits : Fits (length levels) w h (length output) (length work)
+    fits =
+        let sides = good .0 in
+        record { shape = record { sides = ((omega arith, omega arith), (omega arith, omega arith)); all-levels = good .1 }; long-output = long-output; long-work = long-work }
+
     judged : Judged levels filtered w h (r .verdict)
-    judged =
-        subst (λ (x : List ℕ). Judged levels x w h (r .verdict)) three
-        (when-measured levels w h output work r (record { shape = fits .shape; long-output = long-output; long-work = long-work }) sides is .judged)
+    judged = subst (λ (x : List ℕ). Judged levels x w h (r .verdict)) three (when-measured levels w h output work r fits (good .0 .0) is .judged)
+
+-- the tests: the sides and the levels, pass three, and the judge's table
+good : (levels w h : ℕ) → Dec (Good levels w h)
+good levels w h =
+    Dec·and (Dec·and (Dec·and (measurable w) (measurable h)) (Dec·and (decLe w 1024) (decLe h 1024))) (ℕ-discrete levels (w * h))
+  where
+    measurable : (side : ℕ) → Dec (MeasurableSide side)
+    measurable side = Dec·and (ℕ-discrete (side % 4) 0) (decLe 8 side)
+
+judges : (w h : ℕ) (levels filtered : List ℕ) (n q : ℕ) → Option (Judges w h levels filtered (verdict n q))
+judges w h levels filtered n q =
+    judge-holds (judge-row (innerPixels w h) (overTiles maximum w h filtered) (overTiles minimum w h filtered) (natOf (spreadOf w h levels filtered)) n q)
+
+-- a picture and its eighths, then the number and q
+unfoldable pub holds : (w h : ℕ) (levels filtered : List ℕ) (n q : ℕ) → Option (Measures w h levels (verdict n q))
+unfolding decLe ℕ-discrete Dec·and when good judges joined sum maximum minimum tile overTiles sumℤ sumOverℤ sumInner spreadOf three-holds judge-holds
+holds w h levels filtered n q = elim (when (good (length levels) w h)) [
+  | some p ↦ elim (three-holds (filter-row w h levels filtered)) [
+    | some three ↦ Option·map (measures w h levels filtered (verdict n q) p three) (judges w h levels filtered n q)
+    | none ↦ none
+  ]
+  | none ↦ none
+]
 
 -- ---- the larger picture of docs/for-students.md, and its eighths
 abbrev pub larger : List ℕ
@@ -66,10 +99,5 @@ largerEighths =
 
 -- it is measured: the ratio is 38.43
 pub larger-measured : Measures 8 8 larger (verdict 0 3843)
-unfolding joined sum maximum minimum tile overTiles sumℤ sumOverℤ sumInner spreadOf three-holds judge-holds
-larger-measured =
-    measures 8 8 larger largerEighths (verdict 0 3843)
-    (record { shape = record { sides = ((lit≤ tt, lit≤ tt), (lit≤ tt, lit≤ tt)); all-levels = refl }; long-output = lit≤ tt; long-work = lit≤ tt })
-    ((refl, lit≤ tt), (refl, lit≤ tt))
-    (get (three-holds (filter-row 8 8 larger largerEighths)) tt)
-    (get (judge-holds (judge-row 4 21860 9120 6400 0 3843)) tt)
+unfolding holds
+larger-measured = get (holds 8 8 larger largerEighths 0 3843) tt

@@ -6,24 +6,21 @@ use mathlib.Core.Bool.{true, _||_, not}
 use mathlib.Core.List.{List, [], _∷_}
 use mathlib.Core.Option.{get}
 use Prim.Native.Nat.{ℕ, _*_, _<_}
-use lib.Dec.{eqb, eqb→eq, lit≤}
+use lib.Dec.{eqb, eqb→eq}
 use lib.IntN.{ℤ, pos, _-ℤ_, _*ℤ_}
-use lib.ListN.{length, getD}
+use lib.ListN.{getD}
 use Rattle.arithmetic.specs.Lists.{joined}
 use Rattle.arithmetic.specs.Signed.{square}
-use Rattle.arithmetic.specs.Sums.{sum, sumℤ, sumOverℤ}
+use Rattle.arithmetic.specs.Sums.{sumℤ, sumOverℤ}
 use Rattle.arithmetic.proofs.Computed.{each}
 use Rattle.units.specs.Units.{eighths}
 use Rattle.filter.specs.Filter.{passThree}
-use Rattle.filter.proofs.Outcomes.{Fits}
 use Rattle.filter.proofs.Examples.{three-holds, row as filter-row}
 use Rattle.judge.specs.declared.Verdict.{Verdict}
-use Rattle.judge.specs.Extremes.{maximum, minimum, tile, overTiles}
 use Rattle.judge.specs.Noise.{counts, difference, sumInner, spreadOf}
 use Rattle.judge.specs.Judge.{verdict, refused, JudgeIs}
-use Rattle.judge.specs.Measure.{MeasurableSide}
 use Rattle.judge.proofs.Examples.{holds as judge-holds, row as judge-row}
-use Rattle.cases.proofs.Measured.{Measures, measures}
+use Rattle.cases.proofs.Measured.{Measures, holds}
 
 -- D as it was before the request, over all w·h pixels. It stands in this example alone.
 abbrev pub spreadWithRim : ℕ → ℕ → List ℕ → List ℕ → ℤ
@@ -60,18 +57,10 @@ pub slope-with-rim : spreadWithRim 12 12 slope slopeEighths ≡ pos 67737600
 unfolding joined sumℤ
 slope-with-rim = refl
 
--- what a picture of twelve such rows has to be measured
-fitting : (levels : List ℕ) → length levels ≡ 144 → Fits (length levels) 12 12 144 144
-fitting levels all =
-    record { shape = record { sides = ((lit≤ tt, lit≤ tt), (lit≤ tt, lit≤ tt)); all-levels = all }; long-output = lit≤ tt; long-work = lit≤ tt }
-
-sides : MeasurableSide 12 × MeasurableSide 12
-sides = ((refl, lit≤ tt), (refl, lit≤ tt))
-
 -- measured, it is discarded by 6, before its noise is looked at: a tile has only a quarter of the slope's climb
 pub slope-measured : Measures 12 12 slope (refused 6)
-unfolding joined sum maximum minimum tile overTiles sumℤ sumOverℤ sumInner spreadOf judge-holds
-slope-measured = measures 12 12 slope slopeEighths (refused 6) (fitting slope refl) sides slope-filtered (get (judge-holds (judge-row 36 16080 12080 0 6 0)) tt)
+unfolding joined holds
+slope-measured = get (holds 12 12 slope slopeEighths 6 0) tt
 
 -- ---- a slope that is folded so that every tile has a dark and a bright column: its extremes pass
 abbrev pub folded : List ℕ
@@ -94,8 +83,8 @@ folded-with-rim = refl
 
 -- measured, it is discarded by 8, as a picture without noise is
 pub folded-measured : Measures 12 12 folded (refused 8)
-unfolding joined sum maximum minimum tile overTiles sumℤ sumOverℤ sumInner spreadOf judge-holds
-folded-measured = measures 12 12 folded foldedEighths (refused 8) (fitting folded refl) sides folded-filtered (get (judge-holds (judge-row 36 29440 8440 0 8 0)) tt)
+unfolding joined holds
+folded-measured = get (holds 12 12 folded foldedEighths 8 0) tt
 
 -- with the rim it was discarded by 9, at a ratio of 3.41: for noise that is not there
 pub folded-was : (v : Verdict) → JudgeIs 144 (eighths 29440) (eighths 8440) 1555848000 v → v ≡ verdict 9 341

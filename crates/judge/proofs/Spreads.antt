@@ -16,7 +16,7 @@ use Rattle.arithmetic.proofs.Differences.{pos-minus, sub-pos, sub-neg}
 use Rattle.arithmetic.proofs.Sums.{sum-none, sum-more, sum-goes-on, square-of-sum}
 use Rattle.arithmetic.proofs.SignedSums.{over-natural, over-minus}
 use Rattle.judge.specs.Noise.{counts, innerPixels, difference, sumInner, spreadOf}
-use Rattle.judge.specs.Asked.{dist, light, flat, innerPlace, Sums}
+use Rattle.judge.specs.Asked.{dist, light, flat, innerPlace, squaredAt, Sums}
 use Rattle.judge.proofs.Inner.{over-inner}
 
 -- the square of a difference is the square of how far the two are apart
@@ -32,11 +32,11 @@ unfolding sum
 sums-apart zero f g = omega arith
 sums-apart (suc n) f g = omega (arith, sums-apart n f g)
 
--- n pixels, of which the k-th has 8 times the level l k and the filtered eighths f k
+-- n pixels, of which l k is 8 times the level of the k-th and f k its filtered eighths
 module _ (n : ℕ) (l f : ℕ → ℕ) where
   -- the sum of d²
   abbrev squaresOf : ℕ
-  squaresOf = sum n (λ k. dist (l k) (f k) * dist (l k) (f k))
+  squaresOf = sum n (squaredAt l f)
 
   -- how far the sum of d is from 0
   abbrev awayOf : ℕ
@@ -50,14 +50,11 @@ module _ (n : ℕ) (l f : ℕ → ℕ) where
 
 -- the three sums, of any such pixels
 module _ (l f : ℕ → ℕ) where
-  abbrev squared : ℕ → ℕ
-  squared k = dist (l k) (f k) * dist (l k) (f k)
-
   -- of none
   pub sums-none : Sums l f 0 0 0 0
   sums-none =
       record {
-        squares-is = sym (sum-none squared);
+        squares-is = sym (sum-none (squaredAt l f));
         lights-is = sym (sum-none l);
         flats-is = sym (sum-none f);
         squares-most = omega arith;
@@ -72,7 +69,7 @@ module _ (l f : ℕ → ℕ) where
       let near : d ≤ 2040 = omega (arith, lit .1, small) in
       let is : d ≡ dist (l k) (f k) = rw (lit .0) at apart in
       record {
-        squares-is = rw (sum-more k squared, ← s .squares-is, ← is);
+        squares-is = rw (sum-more k (squaredAt l f), ← s .squares-is, ← is);
         lights-is = rw (sum-more k l, ← s .lights-is, ← lit .0);
         flats-is = rw (sum-more k f, ← s .flats-is);
         squares-most = omega (arith, s .squares-most, mul-le-mul near near);
@@ -89,9 +86,8 @@ module _ (l f : ℕ → ℕ) where
       → {squares lights flats a b c : ℕ} → Sums l f at squares lights flats → Sums l' f' n a b c
       → Sums l f (at + n) (squares + a) (lights + b) (flats + c)
   sums-joined l' f' at n lit flat {squares} {lights} {flats} {a} {b} {c} p q =
-      let squared' : ℕ → ℕ = λ k. dist (l' k) (f' k) * dist (l' k) (f' k) in
       record {
-        squares-is = rw (p .squares-is, q .squares-is) (sum-goes-on at n squared squared' (λ k h. rw (lit k h, flat k h)));
+        squares-is = rw (p .squares-is, q .squares-is) (sum-goes-on at n (squaredAt l f) (squaredAt l' f') (λ k h. rw (lit k h, flat k h)));
         lights-is = rw (p .lights-is, q .lights-is) (sum-goes-on at n l l' lit);
         flats-is = rw (p .flats-is, q .flats-is) (sum-goes-on at n f f' flat);
         squares-most = omega (arith, p .squares-most, q .squares-most);
@@ -137,11 +133,10 @@ module _ (w h : ℕ) (levels filtered : List ℕ) where
   in-naturals =
       let l = light levels in
       let f = flat filtered in
-      let gap : ℕ → ℕ = λ k. dist (l k) (f k) * dist (l k) (f k) in
       rw (
-        over-natural (w * h) (counts w h) (λ k. square (difference levels filtered k)) gap (λ k. square-apart (l k) (f k)),
+        over-natural (w * h) (counts w h) (λ k. square (difference levels filtered k)) (squaredAt l f) (λ k. square-apart (l k) (f k)),
         over-minus (w * h) (counts w h) l f,
-        over-inner w h gap,
+        over-inner w h (squaredAt l f),
         over-inner w h l,
         over-inner w h f,
         square-apart (sum N (lightAt w levels)) (sum N (flatAt w filtered)),

@@ -61,10 +61,13 @@ flat filtered k = getD filtered k 0
 abbrev pub innerPlace : ℕ → ℕ → ℕ
 innerPlace w k = (k / (w - 6) + 3) * w + (k % (w - 6) + 3)
 
--- the three sums over n pixels, of which the k-th has 8 times the level l k and the filtered eighths f k: of the squared differences,
--- and of the two terms whose difference d is
+-- d² at the k-th of some pixels, of which l k is 8 times the level and f k the filtered eighths
+abbrev pub squaredAt : (ℕ → ℕ) → (ℕ → ℕ) → ℕ → ℕ
+squaredAt l f k = dist (l k) (f k) * dist (l k) (f k)
+
+-- the three sums over n such pixels: of d², and of the two terms whose difference d is
 pub record Sums (l f : ℕ → ℕ) (n squares lights flats : ℕ) : Type 0 where
-  pub squares-is : squares ≡ sum n (λ k. dist (l k) (f k) * dist (l k) (f k))
+  pub squares-is : squares ≡ sum n (squaredAt l f)
   pub lights-is : lights ≡ sum n l
   pub flats-is : flats ≡ sum n f
   pub squares-most : squares ≤ n * 4_161_600

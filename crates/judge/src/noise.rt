@@ -36,7 +36,7 @@ pub(crate) fn spread(levels: &[u8], filtered: &[u16], width: usize, height: usiz
     let mut squares = 0u64;
     let mut lights = 0u64;
     let mut flats = 0u64;
-    let mut at = 3 * width + 3;
+    let mut at = 3 * width + 3; // the first pixel that counts
     let mut j = 0usize;
     while j < rows {
         let end = at + columns;
