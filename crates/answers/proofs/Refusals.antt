@@ -34,10 +34,10 @@ carried f g (inl a) = inl (a.0, f a.1)
 carried f g (inr b) = inr (b.0, g b.1)
 
 -- a function that says whether P holds: what its answer r tells a caller who asks for the contrary, as in `if !f(..)`
-pub told-no : {P : Type 0} {r : Bool} → Unless P (r ≡ false) (r ≡ true) → not r ≡ true → ¬ P
-told-no (inl out) h = out.0
-told-no {P} {r} (inr ok) h = absurd (true≢false (sym ok.1 ∙ not-true r h))
+pub told_no : {P : Type 0} {r : Bool} → Unless P (r ≡ false) (r ≡ true) → not r ≡ true → ¬ P
+told_no (inl out) h = out.0
+told_no {P} {r} (inr ok) h = absurd (true≢false (sym ok.1 ∙ not-true r h))
 
-pub told-yes : {P : Type 0} {r : Bool} → Unless P (r ≡ false) (r ≡ true) → not r ≡ false → P
-told-yes {P} {r} (inl out) h = absurd (true≢false (sym (not-false r h) ∙ out.1))
-told-yes (inr ok) h = ok.0
+pub told_yes : {P : Type 0} {r : Bool} → Unless P (r ≡ false) (r ≡ true) → not r ≡ false → P
+told_yes {P} {r} (inl out) h = absurd (true≢false (sym (not-false r h) ∙ out.1))
+told_yes (inr ok) h = ok.0

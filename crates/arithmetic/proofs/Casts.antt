@@ -11,8 +11,8 @@ use borrow.Author.Tests.{ltb-true, ltb-false}
 use mir.Syntax.{Width, w64}
 use mir.Val.{hbits, SFits, Fits, to_z, of_z}
 use mir.ValLaws.{to_z-of_z, to_z_pos}
-use Rattle.arithmetic.proofs.Differences.{pos-minus}
-use Rattle.arithmetic.proofs.Ranges.{of-diff, in-width}
+use Rattle.arithmetic.proofs.Differences.{pos_minus}
+use Rattle.arithmetic.proofs.Ranges.{of_diff, in_width}
 use Rattle.arithmetic.specs.Signed.{nat_of}
 
 negative : (z : ℤ) → lt_z z (pos 0) ≡ true → 0 ≡ nat_of z
@@ -41,10 +41,10 @@ module _ (z : ℤ) (f : SFits w64 z) where
 -- a difference of two numbers of a signed width w, as the machine makes it
 module _ (w : Width) (p n : ℕ) (hp : p < 2 ^ hbits w) (hn : n < 2 ^ hbits w) where
   made : to_z w p -ℤ to_z w n ≡ sub_ℕ p n
-  made = rw (to_z_pos w p hp, to_z_pos w n hn) (pos-minus p n)
+  made = rw (to_z_pos w p hp, to_z_pos w n hn) (pos_minus p n)
 
   small : SFits w (sub_ℕ p n)
-  small = in-width w (sub_ℕ p n) (of-diff p n) hn hp
+  small = in_width w (sub_ℕ p n) (of_diff p n) hn hp
 
   pub diff-fits : SFits w (to_z w p -ℤ to_z w n)
   diff-fits = rw made small

@@ -27,10 +27,10 @@ abbrev pub EveryRow : {A : Type 0} → (A → Type 0) → List A → Type 0
 EveryRow Holds [] = Unit {0}
 EveryRow Holds (r ∷ l) = Holds r × EveryRow Holds l
 
-unfoldable pub every-row : {A : Type 0} (Holds : A → Type 0) → ((r : A) → Option (Holds r)) → (l : List A) → Option (EveryRow Holds l)
-every-row Holds holds [] = some tt
-every-row Holds holds (r ∷ l) = elim (holds r) [
-  | some p ↦ map (λ rest. (p, rest)) (every-row Holds holds l)
+unfoldable pub every_row : {A : Type 0} (Holds : A → Type 0) → ((r : A) → Option (Holds r)) → (l : List A) → Option (EveryRow Holds l)
+every_row Holds holds [] = some tt
+every_row Holds holds (r ∷ l) = elim (holds r) [
+  | some p ↦ map (λ rest. (p, rest)) (every_row Holds holds l)
   | none ↦ none
 ]
 

@@ -13,7 +13,7 @@ use lib.ListN.{length, get_or, get_or-eq_default}
 use Rattle.arithmetic.specs.Greatest.{Least}
 use Rattle.arithmetic.specs.Lists.{AtMost}
 use Rattle.answers.specs.Refusals.{Unless}
-use Rattle.arithmetic.proofs.Order.{le-or-lt}
+use Rattle.arithmetic.proofs.Order.{le_or_lt}
 use Rattle.answers.proofs.Refusals.{stops, goes_on}
 
 -- `most` is the greatest of the first i values
@@ -23,13 +23,13 @@ pub record Most (values : List ℕ) (most i : ℕ) : Type 0 where
   pub no_more : (b : ℕ) → AtMost b values → most ≤ b
 
 -- of none it is 0
-pub most-none : (values : List ℕ) → Most values 0 0
-most-none values = record { within = zero-le; up_to = λ k h. absurd (let z : ⊥ = omega arith in z); no_more = λ b p. zero-le }
+pub most_none : (values : List ℕ) → Most values 0 0
+most_none values = record { within = zero-le; up_to = λ k h. absurd (let z : ⊥ = omega arith in z); no_more = λ b p. zero-le }
 
 -- one value more, x
-pub most-more : {values : List ℕ} {most i : ℕ} (x : ℕ) → i < length values → x ≡ get_or values i 0 → Most values most i
+pub most_more : {values : List ℕ} {most i : ℕ} (x : ℕ) → i < length values → x ≡ get_or values i 0 → Most values most i
     → Most values (max most x) (i + 1)
-most-more {values} {most} {i} x more is so_far =
+most_more {values} {most} {i} x more is so_far =
     record { within = omega arith; up_to = up_to; no_more = λ b p. max-le (so_far.no_more b p) (omega (arith, p i)) }
   where
     up_to : (k : ℕ) → k < i + 1 → get_or values k 0 ≤ max most x
@@ -39,8 +39,8 @@ most-more {values} {most} {i} x more is so_far =
     ]
 
 -- all values
-pub most-all : {values : List ℕ} {most i : ℕ} → length values ≤ i → Most values most i → Least (λ b. AtMost b values) most
-most-all {values} {most} {i} all so_far = record { holds = holds; least = so_far.no_more }
+pub most_all : {values : List ℕ} {most i : ℕ} → length values ≤ i → Most values most i → Least (λ b. AtMost b values) most
+most_all {values} {most} {i} all so_far = record { holds = holds; least = so_far.no_more }
   where
     holds : AtMost most values
     holds k = elim (dec_lt k i) [
@@ -49,9 +49,9 @@ most-all {values} {most} {i} all so_far = record { holds = holds; least = so_far
     ]
 
 -- each is at most b exactly where the greatest is
-pub most-tells : (values : List ℕ) (most b : ℕ) → Least (λ b. AtMost b values) most
+pub most_tells : (values : List ℕ) (most b : ℕ) → Least (λ b. AtMost b values) most
     → Unless (AtMost b values) (leb most b ≡ false) (leb most b ≡ true)
-most-tells values most b l = ⊎_elim
+most_tells values most b l = ⊎_elim
     (λ (h : most ≤ b). goes_on (λ k. le_trans (l.holds k) h) (le-leb most b h))
     (λ (h : b < most). stops (λ small. not-le_of_lt h (l.least b small)) (lt-leb most b h))
-    (le-or-lt most b)
+    (le_or_lt most b)

@@ -10,9 +10,9 @@ use lib.Signed.{◌≤ℤ◌}
 use mir.Syntax.{Width}
 use mir.Val.{hbits, SFits}
 use Rattle.arithmetic.specs.Sums.{sum, sumℤ}
-use Rattle.arithmetic.proofs.Order.{le-or-lt}
-use Rattle.arithmetic.proofs.SignedSums.{sumℤ-more}
-use Rattle.arithmetic.proofs.Differences.{sub-pos, sub-neg, add-diff, mul-diff, plus, minus, as-diff}
+use Rattle.arithmetic.proofs.Order.{le_or_lt}
+use Rattle.arithmetic.proofs.SignedSums.{sumℤ_more}
+use Rattle.arithmetic.proofs.Differences.{sub_pos, sub_neg, add_diff, mul_diff, plus, minus, as_diff}
 
 -- z lies from −below to above
 pub record Ranges (below above : ℕ) (z : ℤ) : Type 0 where
@@ -34,11 +34,11 @@ pub in_order : {below above : ℕ} (z : ℤ) → Ranges below above z → (neg_�
 in_order {below} {above} z r = (at_least below z r.low, at_most above z r.high)
 
 -- a − b lies from −b to a
-pub of-diff : (a b : ℕ) → Ranges b a (sub_ℕ a b)
-of-diff a b = ⊎_elim
-    (λ (h : b ≤ a). rw (sub-pos a b h) (record { low = omega arith; high = omega arith }))
-    (λ (h : a < b). rw (sub-neg a b h) (record { low = omega arith; high = omega arith }))
-    (le-or-lt b a)
+pub of_diff : (a b : ℕ) → Ranges b a (sub_ℕ a b)
+of_diff a b = ⊎_elim
+    (λ (h : b ≤ a). rw (sub_pos a b h) (record { low = omega arith; high = omega arith }))
+    (λ (h : a < b). rw (sub_neg a b h) (record { low = omega arith; high = omega arith }))
+    (le_or_lt b a)
 
 -- a wider range
 pub widened : {a a' b b' : ℕ} {z : ℤ} → a ≤ a' → b ≤ b' → Ranges a b z → Ranges a' b' z
@@ -49,38 +49,38 @@ pub of_natural : (n : ℕ) → Ranges 0 n (pos n)
 of_natural n = record { low = omega arith; high = omega arith }
 
 -- two numbers as differences
-both-diffs : (f : ℤ → ℤ → ℤ) (x y : ℤ) → f x y ≡ f (sub_ℕ (plus x) (minus x)) (sub_ℕ (plus y) (minus y))
-both-diffs f x y = λ i. f (as-diff x i) (as-diff y i)
+both_diffs : (f : ℤ → ℤ → ℤ) (x y : ℤ) → f x y ≡ f (sub_ℕ (plus x) (minus x)) (sub_ℕ (plus y) (minus y))
+both_diffs f x y = λ i. f (as_diff x i) (as_diff y i)
 
 -- of a sum
-of-sum : {a b c d : ℕ} (x y : ℤ) → Ranges a b x → Ranges c d y → Ranges (a + c) (b + d) (x +ℤ y)
-of-sum x y r s =
-    subst (Ranges _ _) (sym (both-diffs ◌+ℤ◌ x y ∙ add-diff (plus x) (minus x) (plus y) (minus y)))
-    (widened (omega (arith, r.low, s.low)) (omega (arith, r.high, s.high)) (of-diff (plus x + plus y) (minus x + minus y)))
+of_sum : {a b c d : ℕ} (x y : ℤ) → Ranges a b x → Ranges c d y → Ranges (a + c) (b + d) (x +ℤ y)
+of_sum x y r s =
+    subst (Ranges _ _) (sym (both_diffs ◌+ℤ◌ x y ∙ add_diff (plus x) (minus x) (plus y) (minus y)))
+    (widened (omega (arith, r.low, s.low)) (omega (arith, r.high, s.high)) (of_diff (plus x + plus y) (minus x + minus y)))
 
 -- of a product x·z: where x is negative, the two ends change places
-pub of-product : {a b : ℕ} (x z : ℤ) → Ranges a b z → Ranges (plus x * a + minus x * b) (plus x * b + minus x * a) (x *ℤ z)
-of-product x z r =
+pub of_product : {a b : ℕ} (x z : ℤ) → Ranges a b z → Ranges (plus x * a + minus x * b) (plus x * b + minus x * a) (x *ℤ z)
+of_product x z r =
     let pp = mul-le-mul_left (plus x) r.high in
     let pm = mul-le-mul_left (plus x) r.low in
     let mp = mul-le-mul_left (minus x) r.high in
     let mm = mul-le-mul_left (minus x) r.low in
-    subst (Ranges _ _) (sym (both-diffs ◌*ℤ◌ x z ∙ mul-diff (plus x) (minus x) (plus z) (minus z)))
+    subst (Ranges _ _) (sym (both_diffs ◌*ℤ◌ x z ∙ mul_diff (plus x) (minus x) (plus z) (minus z)))
     (widened (omega (arith, pm, mp)) (omega (arith, pp, mm))
-    (of-diff (plus x * plus z + minus x * minus z) (plus x * minus z + minus x * plus z)))
+    (of_diff (plus x * plus z + minus x * minus z) (plus x * minus z + minus x * plus z)))
 
 -- of n numbers, added up
-pub of-sums : (n : ℕ) (f g : ℕ → ℕ) (z : ℕ → ℤ) → ((i : ℕ) → i < n → Ranges (f i) (g i) (z i)) → Ranges (sum n f) (sum n g) (sumℤ n z)
+pub of_sums : (n : ℕ) (f g : ℕ → ℕ) (z : ℕ → ℤ) → ((i : ℕ) → i < n → Ranges (f i) (g i) (z i)) → Ranges (sum n f) (sum n g) (sumℤ n z)
 unfolding sum sumℤ
-of-sums zero f g z p = of_natural 0
-of-sums (suc n) f g z p = of-sum (sumℤ n z) (z n) (of-sums n f g z (λ i l. p i (omega arith))) (p n (omega arith))
+of_sums zero f g z p = of_natural 0
+of_sums (suc n) f g z p = of_sum (sumℤ n z) (z n) (of_sums n f g z (λ i l. p i (omega arith))) (p n (omega arith))
 
 -- a number that is near enough to 0 has room in a signed width
-pub in-width : (w : Width) {a b : ℕ} (z : ℤ) → Ranges a b z → a < 2 ^ hbits w → b < 2 ^ hbits w → SFits w z
-in-width w (pos n) r p q = record { sfits = omega (arith, r.high) }
-in-width w (negsuc n) r p q = record { sfits = omega (arith, r.low) }
+pub in_width : (w : Width) {a b : ℕ} (z : ℤ) → Ranges a b z → a < 2 ^ hbits w → b < 2 ^ hbits w → SFits w z
+in_width w (pos n) r p q = record { sfits = omega (arith, r.high) }
+in_width w (negsuc n) r p q = record { sfits = omega (arith, r.low) }
 
 -- and so has a sum with one number more
-pub next-in-width : (w : Width) {a b : ℕ} (z : ℕ → ℤ) (n : ℕ) → Ranges a b (sumℤ (n + 1) z) → a < 2 ^ hbits w → b < 2 ^ hbits w
+pub next_in_width : (w : Width) {a b : ℕ} (z : ℕ → ℤ) (n : ℕ) → Ranges a b (sumℤ (n + 1) z) → a < 2 ^ hbits w → b < 2 ^ hbits w
     → SFits w (sumℤ n z +ℤ z n)
-next-in-width w z n r p q = rw (← sumℤ-more n z) (in-width w (sumℤ (n + 1) z) r p q)
+next_in_width w z n r p q = rw (← sumℤ_more n z) (in_width w (sumℤ (n + 1) z) r p q)

@@ -7,11 +7,11 @@ use native.Mathlib.Nat.{add-mul, mul-add, mul_comm, suc-mul, mul-zero, zero-mul}
 use native.Mathlib.Numerals.{add-one}
 use native.Mathlib.Omega.{arith}
 use Rattle.arithmetic.specs.Sums.{sum}
-use Rattle.arithmetic.proofs.Order.{le-or-lt}
+use Rattle.arithmetic.proofs.Order.{le_or_lt}
 
-pub sum-none : (f : ℕ → ℕ) → sum 0 f ≡ 0
+pub sum_none : (f : ℕ → ℕ) → sum 0 f ≡ 0
 unfolding sum
-sum-none f = refl
+sum_none f = refl
 
 pub sum_more : (n : ℕ) (f : ℕ → ℕ) → sum (n + 1) f ≡ sum n f + f n
 unfolding sum
@@ -24,10 +24,10 @@ sum_first zero f = omega arith
 sum_first (suc n) f = omega (arith, sum_first n f)
 
 -- n numbers that are at most b
-pub sum-most : (b n : ℕ) (f : ℕ → ℕ) → ((i : ℕ) → f i ≤ b) → sum n f ≤ n * b
+pub sum_most : (b n : ℕ) (f : ℕ → ℕ) → ((i : ℕ) → f i ≤ b) → sum n f ≤ n * b
 unfolding sum
-sum-most b zero f p = zero-le
-sum-most b (suc n) f p = omega (arith, sum-most b n f p, p n, suc-mul n b)
+sum_most b zero f p = zero-le
+sum_most b (suc n) f p = omega (arith, sum_most b n f p, p n, suc-mul n b)
 
 -- numbers that are the same have the same sum
 pub sum_same : (n : ℕ) (f g : ℕ → ℕ) → ((i : ℕ) → i < n → f i ≡ g i) → sum n f ≡ sum n g
@@ -36,51 +36,51 @@ sum_same zero f g p = refl
 sum_same (suc n) f g p = omega (arith, sum_same n f g (λ i l. p i (omega arith)), p n (omega arith))
 
 -- n numbers that are all c
-pub sum-equal : (c n : ℕ) (f : ℕ → ℕ) → ((i : ℕ) → i < n → f i ≡ c) → sum n f ≡ n * c
+pub sum_equal : (c n : ℕ) (f : ℕ → ℕ) → ((i : ℕ) → i < n → f i ≡ c) → sum n f ≡ n * c
 unfolding sum
-sum-equal c zero f p = sym (zero-mul c)
-sum-equal c (suc n) f p = omega (arith, sum-equal c n f (λ i l. p i (omega arith)), p n (omega arith), suc-mul n c)
+sum_equal c zero f p = sym (zero-mul c)
+sum_equal c (suc n) f p = omega (arith, sum_equal c n f (λ i l. p i (omega arith)), p n (omega arith), suc-mul n c)
 
 -- the sum of the numbers of two sums, taken in pairs
-pub sum-add : (n : ℕ) (f g : ℕ → ℕ) → sum n (λ i. f i + g i) ≡ sum n f + sum n g
+pub sum_add : (n : ℕ) (f g : ℕ → ℕ) → sum n (λ i. f i + g i) ≡ sum n f + sum n g
 unfolding sum
-sum-add zero f g = refl
-sum-add (suc n) f g = omega (arith, sum-add n f g)
+sum_add zero f g = refl
+sum_add (suc n) f g = omega (arith, sum_add n f g)
 
 -- a sum in two parts
-pub sum-parts : (a n : ℕ) (f : ℕ → ℕ) → sum (a + n) f ≡ sum a f + sum n (λ i. f (a + i))
+pub sum_parts : (a n : ℕ) (f : ℕ → ℕ) → sum (a + n) f ≡ sum a f + sum n (λ i. f (a + i))
 unfolding sum
-sum-parts a zero f = let e : a + 0 ≡ a = omega arith in let z : sum a f + 0 ≡ sum a f = omega arith in rw (e, z)
-sum-parts a (suc n) f = let e : a + suc n ≡ suc (a + n) = omega arith in rw e (omega (arith, sum-parts a n f))
+sum_parts a zero f = let e : a + 0 ≡ a = omega arith in let z : sum a f + 0 ≡ sum a f = omega arith in rw (e, z)
+sum_parts a (suc n) f = let e : a + suc n ≡ suc (a + n) = omega arith in rw e (omega (arith, sum_parts a n f))
 
 -- a sum row by row, of h rows of w numbers
-pub sum-by-rows : (h w : ℕ) (f : ℕ → ℕ) → sum (h * w) f ≡ sum h (λ j. sum w (λ i. f (j * w + i)))
+pub sum_by_rows : (h w : ℕ) (f : ℕ → ℕ) → sum (h * w) f ≡ sum h (λ j. sum w (λ i. f (j * w + i)))
 unfolding sum
-sum-by-rows zero w f = rw (zero-mul w)
-sum-by-rows (suc h) w f = rw (suc-mul h w, sum-parts (h * w) w f, sum-by-rows h w f)
+sum_by_rows zero w f = rw (zero-mul w)
+sum_by_rows (suc h) w f = rw (suc-mul h w, sum_parts (h * w) w f, sum_by_rows h w f)
 
 -- a sum that is cut at a place
-pub sum-cut : (f : ℕ → ℕ) (a n : ℕ) → a ≤ n → sum n f ≡ sum a f + sum (n - a) (λ i. f (a + i))
-sum-cut f a n inside = let e : n ≡ a + (n - a) = omega arith in ap (λ (m : ℕ). sum m f) e ∙ sum-parts a (n - a) f
+pub sum_cut : (f : ℕ → ℕ) (a n : ℕ) → a ≤ n → sum n f ≡ sum a f + sum (n - a) (λ i. f (a + i))
+sum_cut f a n inside = let e : n ≡ a + (n - a) = omega arith in ap (λ (m : ℕ). sum m f) e ∙ sum_parts a (n - a) f
 
 -- a part of a sum is at most all of it
-pub sum-part : (f : ℕ → ℕ) {k n : ℕ} → k ≤ n → sum k f ≤ sum n f
-sum-part f {k} {n} in-it = omega (arith, sum-cut f k n in-it)
+pub sum_part : (f : ℕ → ℕ) {k n : ℕ} → k ≤ n → sum k f ≤ sum n f
+sum_part f {k} {n} in-it = omega (arith, sum_cut f k n in-it)
 
 -- and so is each of its numbers
-pub sum-term : (f : ℕ → ℕ) {i n : ℕ} → i < n → f i ≤ sum n f
-sum-term f {i} {n} in-it = let up_to_lem : i + 1 ≤ n = omega arith in omega (arith, sum-part f up_to_lem, sum_more i f)
+pub sum_term : (f : ℕ → ℕ) {i n : ℕ} → i < n → f i ≤ sum n f
+sum_term f {i} {n} in-it = let up_to_lem : i + 1 ≤ n = omega arith in omega (arith, sum_part f up_to_lem, sum_more i f)
 
 -- a sum goes on with the sum of n numbers that are the next n
-pub sum-goes-on : (a n : ℕ) (f g : ℕ → ℕ) → ((i : ℕ) → i < n → g i ≡ f (a + i)) → sum a f + sum n g ≡ sum (a + n) f
-sum-goes-on a n f g next = rw (sum-parts a n f, sum_same n g (λ i. f (a + i)) next)
+pub sum_goes_on : (a n : ℕ) (f g : ℕ → ℕ) → ((i : ℕ) → i < n → g i ≡ f (a + i)) → sum a f + sum n g ≡ sum (a + n) f
+sum_goes_on a n f g next = rw (sum_parts a n f, sum_same n g (λ i. f (a + i)) next)
 
 -- twice a product is at most the sum of the squares
 twice : (t d : ℕ) → 2 * (t * d) ≤ d * d + t * t
 twice t d = ⊎_elim
     (λ (h : t ≤ d). let e : d ≡ t + (d - t) = omega arith in rw e (above t (d - t)))
     (λ (h : d < t). let e : t ≡ d + (t - d) = omega arith in rw e (below d (t - d)))
-    (le-or-lt t d)
+    (le_or_lt t d)
   where
     above : (t x : ℕ) → 2 * (t * (t + x)) ≤ (t + x) * (t + x) + t * t
     above t x = omega (arith, mul-add t t x, add-mul t x (t + x), mul-add x t x, mul_comm x t)

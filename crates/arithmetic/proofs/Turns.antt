@@ -10,12 +10,12 @@ pub record Turn (from end k : ℕ) (So-far : ℕ → Type 0) : Type 0 where
   pub so_far : So-far k
 
 -- before the first
-pub first-turn : {from end : ℕ} {P : ℕ → Type 0} → from ≤ end → P from → Turn from end from P
-first-turn room p = record { from_on = omega arith; up_to = room; so_far = p }
+pub first_turn : {from end : ℕ} {P : ℕ → Type 0} → from ≤ end → P from → Turn from end from P
+first_turn room p = record { from_on = omega arith; up_to = room; so_far = p }
 
 -- after one more
-pub next-turn : {from end k : ℕ} {P Q : ℕ → Type 0} → Turn from end k P → k < end → Q (k + 1) → Turn from end (k + 1) Q
-next-turn turn more q = record { from_on = omega arith; up_to = omega arith; so_far = q }
+pub next_turn : {from end k : ℕ} {P Q : ℕ → Type 0} → Turn from end k P → k < end → Q (k + 1) → Turn from end (k + 1) Q
+next_turn turn more q = record { from_on = omega arith; up_to = omega arith; so_far = q }
 
 -- past the last
 pub last_turn : {from end k : ℕ} {P : ℕ → Type 0} → Turn from end k P → end ≤ k → P end

@@ -6,13 +6,13 @@ abbrev pub byte : List ℕ → ℕ → ℕ
 byte b i = get_or b i 0
 
 -- two bytes from a place on
-abbrev pub twoBytes : List ℕ → ℕ → ℕ
-twoBytes b i = byte b i + 256 * byte b (i + 1)
+abbrev pub two_bytes : List ℕ → ℕ → ℕ
+two_bytes b i = byte b i + 256 * byte b (i + 1)
 
 -- four
-abbrev pub fourBytes : List ℕ → ℕ → ℕ
-fourBytes b i = byte b i + 256 * byte b (i + 1) + 65_536 * byte b (i + 2) + 16_777_216 * byte b (i + 3)
+abbrev pub four_bytes : List ℕ → ℕ → ℕ
+four_bytes b i = byte b i + 256 * byte b (i + 1) + 65_536 * byte b (i + 2) + 16_777_216 * byte b (i + 3)
 
 -- eight: the low four, and the high four
-abbrev pub eightBytes : List ℕ → ℕ → ℕ
-eightBytes b i = fourBytes b i + 4_294_967_296 * fourBytes b (i + 4)
+abbrev pub eight_bytes : List ℕ → ℕ → ℕ
+eight_bytes b i = four_bytes b i + 4_294_967_296 * four_bytes b (i + 4)

@@ -3,7 +3,7 @@
 ghost use Rattle.std.specs.Prelude.{◌≡◌, ◌+◌, ◌*◌};
 ghost use Rattle.std.specs.Int.{w64};
 ghost use Rattle.std.proofs.Common.{to_z};
-ghost use Rattle.arithmetic.specs.Bytes.{eightBytes};
+ghost use Rattle.arithmetic.specs.Bytes.{eight_bytes};
 
 // 16 bits from two bytes.
 pub fn pair(low: u8, high: u8) -> u16
@@ -28,7 +28,7 @@ pub fn eight(low: u32, high: u32) -> u64
 
 // The number that eight bytes stand for.
 pub fn number(bytes: [u8; 8]) -> u64
-    ensures { result ≡ eightBytes bytes 0 }
+    ensures { result ≡ eight_bytes bytes 0 }
 {
     let low = four(pair(bytes[0], bytes[1]), pair(bytes[2], bytes[3]));
     let high = four(pair(bytes[4], bytes[5]), pair(bytes[6], bytes[7]));
@@ -37,7 +37,7 @@ pub fn number(bytes: [u8; 8]) -> u64
 
 // The signed number that eight bytes stand for, in two's complement.
 pub fn signed(bytes: [u8; 8]) -> i64
-    ensures { result ≡ to_z w64 (eightBytes bytes 0) }
+    ensures { result ≡ to_z w64 (eight_bytes bytes 0) }
 {
     complement(number(bytes))
 }

@@ -65,6 +65,6 @@ module _ (w n : ℕ) (l x : List ℕ) (whole : length l ≡ n * w) where
       ∙ ap (λ (g : List ℕ). given held (row_at w l) n ++ g) second
 
 -- rows of nothing are not there
-pub no-row : (w i : ℕ) → row_at w [] i ≡ no_row i
+pub each_no_row : (w i : ℕ) → row_at w [] i ≡ no_row i
 unfolding row_at no_row
-no-row w i = simp (take-nil, drop-nil)
+each_no_row w i = simp (take-nil, drop-nil)

@@ -7,15 +7,15 @@ use Rattle.scan.specs.Scan.{Scanned, RowsIs, EndIs}
 -- ---- any list of calls
 -- a call, with what it is given: width and height, levels and an output, an output
 pub data Call : Type 0 where
-  start-call : ℕ → ℕ → Call
-  rows-call : List ℕ → List ℕ → Call
-  end-call : List ℕ → Call
+  start_call : ℕ → ℕ → Call
+  rows_call : List ℕ → List ℕ → Call
+  end_call : List ℕ → Call
 
 -- what a call on a memory may answer and leave, as promised; levels have 8 bits, and a start has neither rows nor an output
 abbrev pub CallIs : List ℕ → Call → Scanned → Type 0
-CallIs held (start-call w h) r = StartIs held w h r.number r.held × (r.rows ≡ 0) × (r.output ≡ [])
-CallIs held (rows-call levels output) r = AtMost 255 levels × RowsIs held levels output r
-CallIs held (end-call output) r = EndIs held output r
+CallIs held (start_call w h) r = StartIs held w h r.number r.held × (r.rows ≡ 0) × (r.output ≡ [])
+CallIs held (rows_call levels output) r = AtMost 255 levels × RowsIs held levels output r
+CallIs held (end_call output) r = EndIs held output r
 
 -- a call that was made, and what it answered and left
 pub record Made : Type 0 where
@@ -31,33 +31,33 @@ Calls held (m ∷ ms) = CallIs held m.call m.left × Calls m.left.held ms
 -- before a good start nothing; since the last one, its sides, the levels taken together, the rows given out together, and whether the
 -- end was given
 pub data Told : Type 0 where
-  told-nothing : Told
+  told_nothing : Told
   since : ℕ → ℕ → List ℕ → List ℕ → Bool → Told
 
 -- the rows that a call gave out
-abbrev pub givenOut : ℕ → Scanned → List ℕ
-givenOut w r = take (r.rows * w) r.output
+abbrev pub given_out : ℕ → Scanned → List ℕ
+given_out w r = take (r.rows * w) r.output
 
 -- "A good start drops what is held and begins anew."
-abbrev pub tellStart : ℕ → ℕ → Told
-tellStart w h = since w h [] [] false
+abbrev pub tell_start : ℕ → ℕ → Told
+tell_start w h = since w h [] [] false
 
-abbrev pub tellRows : Told → List ℕ → Scanned → Told
-tellRows told-nothing levels r = told-nothing
-tellRows (since w h taken given ended) levels r = since w h (taken ++ levels) (given ++ givenOut w r) ended
+abbrev pub tell_rows : Told → List ℕ → Scanned → Told
+tell_rows told_nothing levels r = told_nothing
+tell_rows (since w h taken given ended) levels r = since w h (taken ++ levels) (given ++ given_out w r) ended
 
-abbrev pub tellEnd : Told → Scanned → Told
-tellEnd told-nothing r = told-nothing
-tellEnd (since w h taken given ended) r = since w h taken (given ++ givenOut w r) true
+abbrev pub tell_end : Told → Scanned → Told
+tell_end told_nothing r = told_nothing
+tell_end (since w h taken given ended) r = since w h taken (given ++ given_out w r) true
 
-abbrev pub tellDone : Told → Call → Scanned → Told
-tellDone t (start-call w h) r = tellStart w h
-tellDone t (rows-call levels output) r = tellRows t levels r
-tellDone t (end-call output) r = tellEnd t r
+abbrev pub tell_done : Told → Call → Scanned → Told
+tell_done t (start_call w h) r = tell_start w h
+tell_done t (rows_call levels output) r = tell_rows t levels r
+tell_done t (end_call output) r = tell_end t r
 
 -- a call that was refused tells nothing
 abbrev pub tell : Told → Call → Scanned → Told
-tell t c r = cond (eqb r.number 0) (tellDone t c r) t
+tell t c r = cond (eqb r.number 0) (tell_done t c r) t
 
 abbrev pub told : Told → List Made → Told
 told t [] = t

@@ -4,7 +4,7 @@
 // its arguments in a row and never looks.
 ghost use Rattle.std.specs.Prelude.{◌≡◌, ◌+◌, ◌*◌, ◌≤◌, length};
 ghost use Rattle.io.specs.Counts.{IsPrefixLen};
-ghost use Rattle.arithmetic.specs.Bytes.{twoBytes, fourBytes};
+ghost use Rattle.arithmetic.specs.Bytes.{two_bytes, four_bytes};
 ghost use Rattle.arithmetic.specs.Lists.{listed, over};
 ghost use Rattle.calls.specs.Space.{Takes, UpTo};
 ghost use Rattle.calls.specs.inside.Reading.{Sliced, Elements, Lent};
@@ -113,7 +113,7 @@ pub(crate) fn levels(so_far: Taken, bytes: &mut [u8]) -> Taken
 // of a slice its own, of a buffer the fill value's.
 fn join_pairs(b: &[u8], at: usize, step: usize, space: &mut [u16], n: usize)
     requires { Elements 2 b.now at step space.old n }
-    ensures { space.new ≡ over space.old 0 (listed n (λ i. twoBytes b.now (at + step * i))) }
+    ensures { space.new ≡ over space.old 0 (listed n (λ i. two_bytes b.now (at + step * i))) }
 {
     let mut i = 0;
     while i < n {
@@ -125,7 +125,7 @@ fn join_pairs(b: &[u8], at: usize, step: usize, space: &mut [u16], n: usize)
 // The same from four bytes.
 fn join_fours(b: &[u8], at: usize, step: usize, space: &mut [u32], n: usize)
     requires { Elements 4 b.now at step space.old n }
-    ensures { space.new ≡ over space.old 0 (listed n (λ i. fourBytes b.now (at + step * i))) }
+    ensures { space.new ≡ over space.old 0 (listed n (λ i. four_bytes b.now (at + step * i))) }
 {
     let mut i = 0;
     while i < n {

@@ -3,7 +3,7 @@
 ghost use Rattle.std.specs.Prelude.{◌≡◌, ◌+◌, ◌*◌, ◌≤◌, length};
 ghost use Rattle.std.specs.Int.{w64};
 ghost use Rattle.std.proofs.Common.{to_z};
-ghost use Rattle.arithmetic.specs.Bytes.{twoBytes, fourBytes, eightBytes};
+ghost use Rattle.arithmetic.specs.Bytes.{two_bytes, four_bytes, eight_bytes};
 ghost use Rattle.units.specs.Units.{sixteenths};
 ghost use Rattle.calls.specs.Space.{argument};
 
@@ -13,7 +13,7 @@ use units::Sixteenths;
 // The two bytes from `at` on.
 pub(crate) fn two(b: &[u8], at: usize) -> u16
     requires { at + 2 ≤ length b.now }
-    ensures { result ≡ twoBytes b.now at }
+    ensures { result ≡ two_bytes b.now at }
 {
     bytes::pair(b[at], b[at + 1])
 }
@@ -21,7 +21,7 @@ pub(crate) fn two(b: &[u8], at: usize) -> u16
 // The four.
 pub(crate) fn four(b: &[u8], at: usize) -> u32
     requires { at + 4 ≤ length b.now }
-    ensures { result ≡ fourBytes b.now at }
+    ensures { result ≡ four_bytes b.now at }
 {
     bytes::four(two(b, at), two(b, at + 2))
 }
@@ -29,7 +29,7 @@ pub(crate) fn four(b: &[u8], at: usize) -> u32
 // The eight, one place after the other.
 fn eight(b: &[u8], at: usize) -> [u8; 8]
     requires { at + 8 ≤ length b.now }
-    ensures { eightBytes result 0 ≡ eightBytes b.now at }
+    ensures { eight_bytes result 0 ≡ eight_bytes b.now at }
 {
     [
         b[at],

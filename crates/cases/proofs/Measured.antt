@@ -10,18 +10,18 @@ use native.Mathlib.Omega.{arith}
 use lib.ListN.{length}
 use Rattle.arithmetic.specs.Lists.{joined}
 use Rattle.arithmetic.specs.Signed.{nat_of}
-use Rattle.arithmetic.specs.Sums.{sum, sumℤ, sumOverℤ}
+use Rattle.arithmetic.specs.Sums.{sum, sumℤ, sum_overℤ}
 use Rattle.arithmetic.proofs.Computed.{when}
-use Rattle.filter.specs.Filter.{passThree}
+use Rattle.filter.specs.Filter.{pass_three}
 use Rattle.filter.proofs.Outcomes.{Fits}
-use Rattle.filter.proofs.Examples.{three-holds, row as filter-row}
+use Rattle.filter.proofs.Examples.{three_holds, row as filter_row}
 use Rattle.judge.specs.declared.Verdict.{Verdict}
-use Rattle.judge.specs.Extremes.{maximum, minimum, tile, overTiles, bright, dark}
-use Rattle.judge.specs.Noise.{innerPixels, sumInner, spread_of}
+use Rattle.judge.specs.Extremes.{maximum, minimum, tile, over_tiles, bright, dark}
+use Rattle.judge.specs.Noise.{inner_pixels, sum_inner, spread_of}
 use Rattle.judge.specs.Judge.{verdict, JudgeIs}
 use Rattle.judge.specs.Measure.{MeasurableSide, Judged, Measurement, MeasureIs}
-use Rattle.judge.proofs.Outcomes.{when-measured}
-use Rattle.judge.proofs.Examples.{holds as judge-holds, row as judge-row}
+use Rattle.judge.proofs.Outcomes.{when_measured}
+use Rattle.judge.proofs.Examples.{holds as judge_holds, row as judge_row}
 
 -- with buffers that are long enough, whatever the promise of measuring permits has this verdict
 abbrev pub Measures : ℕ → ℕ → List ℕ → Verdict → Type 0
@@ -32,33 +32,33 @@ Measures w h levels v =
 -- whatever the judge's promise permits of the picture's own numbers is this verdict
 abbrev pub Judges : ℕ → ℕ → List ℕ → List ℕ → Verdict → Type 0
 Judges w h levels filtered v =
-    (u : Verdict) → JudgeIs (innerPixels w h) (bright w h filtered) (dark w h filtered) (nat_of (spread_of w h levels filtered)) u → u ≡ v
+    (u : Verdict) → JudgeIs (inner_pixels w h) (bright w h filtered) (dark w h filtered) (nat_of (spread_of w h levels filtered)) u → u ≡ v
 
 -- a picture that 1, 2 and 5 do not refuse
 abbrev pub Good : ℕ → ℕ → ℕ → Type 0
 Good levels w h = ((MeasurableSide w × MeasurableSide h) × ((w ≤ 1024) × (h ≤ 1024))) × (levels ≡ w * h)
 
 -- it has the judge's verdict on what it is filtered to
-pub measures : (w h : ℕ) (levels filtered : List ℕ) (v : Verdict) → Good (length levels) w h → passThree w h levels ≡ filtered
+pub measures : (w h : ℕ) (levels filtered : List ℕ) (v : Verdict) → Good (length levels) w h → pass_three w h levels ≡ filtered
     → Judges w h levels filtered v
     → Measures w h levels v
-measures w h levels filtered v good three only output work long-output long-work r is =
-    only r.verdict (subst (λ (D : ℕ). JudgeIs (innerPixels w h) (bright w h filtered) (dark w h filtered) D r.verdict)
-    (ap nat_of judged.spread-is) judged.verdict-is)
+measures w h levels filtered v good three only output work long_output long_work r is =
+    only r.verdict (subst (λ (D : ℕ). JudgeIs (inner_pixels w h) (bright w h filtered) (dark w h filtered) D r.verdict)
+    (ap nat_of judged.spread_is) judged.verdict_is)
   where
     fits : Fits (length levels) w h (length output) (length work)
     fits =
         let sides = good.0 in
         record {
-          shape = record { sides = ((omega arith, omega arith), (omega arith, omega arith)); all-levels = good.1 };
-          long-output = long-output;
-          long-work = long-work;
+          shape = record { sides = ((omega arith, omega arith), (omega arith, omega arith)); all_levels = good.1 };
+          long_output = long_output;
+          long_work = long_work;
         }
 
     judged : Judged levels filtered w h r.verdict
     judged =
         subst (λ (x : List ℕ). Judged levels x w h r.verdict) three
-        (when-measured levels w h output work r fits good.0.0 is).judged
+        (when_measured levels w h output work r fits good.0.0 is).judged
 
 -- the tests: the sides and the levels, pass three, and the judge's table
 good : (levels w h : ℕ) → Dec (Good levels w h)
@@ -70,15 +70,15 @@ good levels w h =
 
 judges : (w h : ℕ) (levels filtered : List ℕ) (n q : ℕ) → Option (Judges w h levels filtered (verdict n q))
 judges w h levels filtered n q =
-    judge-holds (judge-row (innerPixels w h) (overTiles maximum w h filtered) (overTiles minimum w h filtered)
+    judge_holds (judge_row (inner_pixels w h) (over_tiles maximum w h filtered) (over_tiles minimum w h filtered)
     (nat_of (spread_of w h levels filtered)) n q)
 
 -- a picture and its eighths, then the number and q
 unfoldable pub holds : (w h : ℕ) (levels filtered : List ℕ) (n q : ℕ) → Option (Measures w h levels (verdict n q))
-unfolding dec_le ℕ_discrete Dec.and when good judges joined sum maximum minimum tile overTiles
-    sumℤ sumOverℤ sumInner spread_of three-holds judge-holds
+unfolding dec_le ℕ_discrete Dec.and when good judges joined sum maximum minimum tile over_tiles
+    sumℤ sum_overℤ sum_inner spread_of three_holds judge_holds
 holds w h levels filtered n q = elim (when (good (length levels) w h)) [
-  | some p ↦ elim (three-holds (filter-row w h levels filtered)) [
+  | some p ↦ elim (three_holds (filter_row w h levels filtered)) [
     | some three ↦ map (measures w h levels filtered (verdict n q) p three) (judges w h levels filtered n q)
     | none ↦ none
   ]
@@ -97,8 +97,8 @@ larger =
     249 ∷ 70 ∷ 69 ∷ 250 ∷ 247 ∷ 69 ∷ 70 ∷ 248 ∷
     251 ∷ 70 ∷ 69 ∷ 250 ∷ 248 ∷ 67 ∷ 69 ∷ 252 ∷ []
 
-abbrev pub largerEighths : List ℕ
-largerEighths =
+abbrev pub larger_eighths : List ℕ
+larger_eighths =
     746 ∷ 568 ∷ 568 ∷ 1992 ∷ 1992 ∷ 568 ∷ 568 ∷ 743 ∷
     744 ∷ 568 ∷ 568 ∷ 1992 ∷ 1992 ∷ 576 ∷ 576 ∷ 747 ∷
     744 ∷ 568 ∷ 568 ∷ 1992 ∷ 1992 ∷ 576 ∷ 576 ∷ 747 ∷
@@ -109,6 +109,6 @@ largerEighths =
     743 ∷ 568 ∷ 568 ∷ 1980 ∷ 1980 ∷ 568 ∷ 568 ∷ 741 ∷ []
 
 -- it is measured: the ratio is 38.43
-pub larger-measured : Measures 8 8 larger (verdict 0 3843)
+pub larger_measured : Measures 8 8 larger (verdict 0 3843)
 unfolding holds
-larger-measured = get (holds 8 8 larger largerEighths 0 3843) tt
+larger_measured = get (holds 8 8 larger larger_eighths 0 3843) tt

@@ -11,20 +11,20 @@ use lib.IntN.{ℤ, pos, ◌-ℤ◌, ◌*ℤ◌}
 use lib.ListN.{get_or}
 use Rattle.arithmetic.specs.Lists.{joined}
 use Rattle.arithmetic.specs.Signed.{square}
-use Rattle.arithmetic.specs.Sums.{sumℤ, sumOverℤ}
+use Rattle.arithmetic.specs.Sums.{sumℤ, sum_overℤ}
 use Rattle.arithmetic.proofs.Computed.{each}
 use Rattle.units.specs.Units.{eighths}
-use Rattle.filter.specs.Filter.{passThree}
-use Rattle.filter.proofs.Examples.{three-holds, row as filter-row}
+use Rattle.filter.specs.Filter.{pass_three}
+use Rattle.filter.proofs.Examples.{three_holds, row as filter_row}
 use Rattle.judge.specs.declared.Verdict.{Verdict}
-use Rattle.judge.specs.Noise.{counts, difference, sumInner, spread_of}
+use Rattle.judge.specs.Noise.{counts, difference, sum_inner, spread_of}
 use Rattle.judge.specs.Judge.{verdict, refused, JudgeIs}
-use Rattle.judge.proofs.Examples.{holds as judge-holds, row as judge-row}
+use Rattle.judge.proofs.Examples.{holds as judge_holds, row as judge_row}
 use Rattle.cases.proofs.Measured.{Measures, holds}
 
 -- D as it was before the request, over all w·h pixels. It stands in this example alone.
-abbrev pub spreadWithRim : ℕ → ℕ → List ℕ → List ℕ → ℤ
-spreadWithRim w h levels filtered =
+abbrev pub spread_with_rim : ℕ → ℕ → List ℕ → List ℕ → ℤ
+spread_with_rim w h levels filtered =
     (pos (w * h) *ℤ sumℤ (w * h) (λ k. square (difference levels filtered k))) -ℤ square (sumℤ (w * h) (difference levels filtered))
 
 -- a picture of twelve rows that are all the same
@@ -36,58 +36,58 @@ abbrev pub slope : List ℕ
 slope = twelve (0 ∷ 20 ∷ 40 ∷ 60 ∷ 80 ∷ 100 ∷ 120 ∷ 140 ∷ 160 ∷ 180 ∷ 200 ∷ 220 ∷ [])
 
 -- in eighths it is 8 times that, but for the first and the last column, whose blocks have no column on the other side
-abbrev pub slopeEighths : List ℕ
-slopeEighths = twelve (140 ∷ 160 ∷ 320 ∷ 480 ∷ 640 ∷ 800 ∷ 960 ∷ 1120 ∷ 1280 ∷ 1440 ∷ 1600 ∷ 1620 ∷ [])
+abbrev pub slope_eighths : List ℕ
+slope_eighths = twelve (140 ∷ 160 ∷ 320 ∷ 480 ∷ 640 ∷ 800 ∷ 960 ∷ 1120 ∷ 1280 ∷ 1440 ∷ 1600 ∷ 1620 ∷ [])
 
-pub slope-filtered : passThree 12 12 slope ≡ slopeEighths
-unfolding joined three-holds
-slope-filtered = get (three-holds (filter-row 12 12 slope slopeEighths)) tt
+pub slope_filtered : pass_three 12 12 slope ≡ slope_eighths
+unfolding joined three_holds
+slope_filtered = get (three_holds (filter_row 12 12 slope slope_eighths)) tt
 
 -- so every pixel that counts is as it was
-pub slope-kept : (k : ℕ) → k < 144 → counts 12 12 k ≡ true → 8 * get_or slope k 0 ≡ get_or slopeEighths k 0
+pub slope_kept : (k : ℕ) → k < 144 → counts 12 12 k ≡ true → 8 * get_or slope k 0 ≡ get_or slope_eighths k 0
 unfolding joined
-slope-kept k less in-it =
-    eqb→eq _ _ (rw in-it at (each (λ k. not (counts 12 12 k) || eqb (8 * get_or slope k 0) (get_or slopeEighths k 0)) 144 tt k less))
+slope_kept k less in-it =
+    eqb→eq _ _ (rw in-it at (each (λ k. not (counts 12 12 k) || eqb (8 * get_or slope k 0) (get_or slope_eighths k 0)) 144 tt k less))
 
 -- no noise; but with the rim there was some
-pub slope-quiet : spread_of 12 12 slope slopeEighths ≡ pos 0
-unfolding joined sumℤ sumOverℤ sumInner spread_of
-slope-quiet = refl
+pub slope_quiet : spread_of 12 12 slope slope_eighths ≡ pos 0
+unfolding joined sumℤ sum_overℤ sum_inner spread_of
+slope_quiet = refl
 
-pub slope-with-rim : spreadWithRim 12 12 slope slopeEighths ≡ pos 67737600
+pub slope_with_rim : spread_with_rim 12 12 slope slope_eighths ≡ pos 67737600
 unfolding joined sumℤ
-slope-with-rim = refl
+slope_with_rim = refl
 
 -- measured, it is discarded by 6, before its noise is looked at: a tile has only a quarter of the slope's climb
-pub slope-measured : Measures 12 12 slope (refused 6)
+pub slope_measured : Measures 12 12 slope (refused 6)
 unfolding joined holds
-slope-measured = get (holds 12 12 slope slopeEighths 6 0) tt
+slope_measured = get (holds 12 12 slope slope_eighths 6 0) tt
 
 -- ---- a slope that is folded so that every tile has a dark and a bright column: its extremes pass
 abbrev pub folded : List ℕ
 folded = twelve (20 ∷ 125 ∷ 230 ∷ 230 ∷ 125 ∷ 20 ∷ 20 ∷ 125 ∷ 230 ∷ 230 ∷ 125 ∷ 20 ∷ [])
 
-abbrev pub foldedEighths : List ℕ
-foldedEighths = twelve (895 ∷ 1000 ∷ 1840 ∷ 1840 ∷ 1000 ∷ 160 ∷ 160 ∷ 1000 ∷ 1840 ∷ 1840 ∷ 1000 ∷ 895 ∷ [])
+abbrev pub folded_eighths : List ℕ
+folded_eighths = twelve (895 ∷ 1000 ∷ 1840 ∷ 1840 ∷ 1000 ∷ 160 ∷ 160 ∷ 1000 ∷ 1840 ∷ 1840 ∷ 1000 ∷ 895 ∷ [])
 
-pub folded-filtered : passThree 12 12 folded ≡ foldedEighths
-unfolding joined three-holds
-folded-filtered = get (three-holds (filter-row 12 12 folded foldedEighths)) tt
+pub folded_filtered : pass_three 12 12 folded ≡ folded_eighths
+unfolding joined three_holds
+folded_filtered = get (three_holds (filter_row 12 12 folded folded_eighths)) tt
 
-pub folded-quiet : spread_of 12 12 folded foldedEighths ≡ pos 0
-unfolding joined sumℤ sumOverℤ sumInner spread_of
-folded-quiet = refl
+pub folded_quiet : spread_of 12 12 folded folded_eighths ≡ pos 0
+unfolding joined sumℤ sum_overℤ sum_inner spread_of
+folded_quiet = refl
 
-pub folded-with-rim : spreadWithRim 12 12 folded foldedEighths ≡ pos 1555848000
+pub folded_with_rim : spread_with_rim 12 12 folded folded_eighths ≡ pos 1555848000
 unfolding joined sumℤ
-folded-with-rim = refl
+folded_with_rim = refl
 
 -- measured, it is discarded by 8, as a picture without noise is
-pub folded-measured : Measures 12 12 folded (refused 8)
+pub folded_measured : Measures 12 12 folded (refused 8)
 unfolding joined holds
-folded-measured = get (holds 12 12 folded foldedEighths 8 0) tt
+folded_measured = get (holds 12 12 folded folded_eighths 8 0) tt
 
 -- with the rim it was discarded by 9, at a ratio of 3.41: for noise that is not there
-pub folded-was : (v : Verdict) → JudgeIs 144 (eighths 29440) (eighths 8440) 1555848000 v → v ≡ verdict 9 341
-unfolding judge-holds
-folded-was = get (judge-holds (judge-row 144 29440 8440 1555848000 9 341)) tt
+pub folded_was : (v : Verdict) → JudgeIs 144 (eighths 29440) (eighths 8440) 1555848000 v → v ≡ verdict 9 341
+unfolding judge_holds
+folded_was = get (judge_holds (judge_row 144 29440 8440 1555848000 9 341)) tt

@@ -5,7 +5,7 @@
 --   first-pass width height levels gives halves
 --   judge N M m D gives verdict number q
 --   two-means counts start after-each-round gives answered number rounds T
---   level rests-in counts                           counts are pairs of a level and how many pixels have it
+--   level rests_in counts                           counts are pairs of a level and how many pixels have it
 --   sample width height levels x y gives sampled number value        x and y are `coordinate i k`: pixel i, remainder k
 --   length s p gives sharpness number length
 --
@@ -19,12 +19,12 @@ use Rattle.length.specs.Length.{sharpness}
 use Rattle.cases.specs.Rows.{Case, ◌gives◌, ◌rests-in◌, filter, first-pass, judge, two-means, sample, length, coordinate}
 
 -- "one each at 100, 128, 156"
-abbrev pub three-levels : List (ℕ × ℕ)
-three-levels = (100, 1) ∷ (128, 1) ∷ (156, 1) ∷ []
+abbrev pub three_levels : List (ℕ × ℕ)
+three_levels = (100, 1) ∷ (128, 1) ∷ (156, 1) ∷ []
 
 -- "Four columns 0 0 255 255, four rows"
-abbrev pub four-columns : List ℕ
-four-columns =
+abbrev pub four_columns : List ℕ
+four_columns =
     0 ∷ 0 ∷ 255 ∷ 255 ∷
     0 ∷ 0 ∷ 255 ∷ 255 ∷
     0 ∷ 0 ∷ 255 ∷ 255 ∷
@@ -48,11 +48,11 @@ table =
     -- 156: 1024/8, 0 rounds, though 121 and 135 rest too."
     ∷ two-means ((0, 1) ∷ (255, 1) ∷ []) 128 (fraction 255 2 ∷ []) gives answered 0 1 (fraction 255 2)
     ∷ two-means ((10, 3) ∷ (20, 1) ∷ []) 20 (fraction 130 8 ∷ fraction 90 6 ∷ []) gives answered 0 2 (fraction 90 6)
-    ∷ two-means three-levels 128 [] gives answered 0 0 (fraction 1024 8)
-    ∷ 121 rests-in three-levels
-    ∷ 135 rests-in three-levels
+    ∷ two-means three_levels 128 [] gives answered 0 0 (fraction 1024 8)
+    ∷ 121 rests_in three_levels
+    ∷ 135 rests_in three_levels
     -- "* Four columns 0 0 255 255, four rows, both remainders 8: 8,556,380,160 (127.5 levels) at i = j = 1."
-    ∷ sample 4 4 four-columns (coordinate 1 8) (coordinate 1 8) gives sampled 0 (pos 8_556_380_160)
+    ∷ sample 4 4 four_columns (coordinate 1 8) (coordinate 1 8) gives sampled 0 (pos 8_556_380_160)
     -- "* s = 32, p = 800: 1,131."
     ∷ length 32 800 gives sharpness 0 1_131
     ∷ []

@@ -3,7 +3,7 @@ use Rattle.std.specs.Prelude.{◌≡◌, List, ◌++◌, ℕ, ◌+◌, ◌*◌, 
 use Rattle.std.proofs.Math.ListN as ListN
 use Rattle.arithmetic.specs.declared.Fraction.{Fraction}
 use Rattle.units.specs.Units.{sixteenths, picometres, eighths}
-use Rattle.filter.specs.Filter.{passOne, Outcome, FilterIs}
+use Rattle.filter.specs.Filter.{pass_one, Outcome, FilterIs}
 use Rattle.judge.specs.declared.Verdict.{Verdict}
 use Rattle.judge.specs.Judge.{JudgeIs}
 use Rattle.threshold.specs.declared.Threshold.{Threshold}
@@ -19,11 +19,11 @@ use Rattle.length.specs.Length.{LengthIs}
 pub data Call : Type 0 where
   -- a picture's width, height and levels: all three passes, and the first alone
   filter : ℕ → ℕ → List ℕ → Call
-  first-pass : ℕ → ℕ → List ℕ → Call
+  first_pass : ℕ → ℕ → List ℕ → Call
   -- N, M, m and D
   judge : ℕ → ℕ → ℕ → ℕ → Call
   -- a histogram, as pairs of a level and how many pixels have it; and the working: the start, and T after each round
-  two-means : List (ℕ × ℕ) → ℕ → List Fraction → Call
+  two_means : List (ℕ × ℕ) → ℕ → List Fraction → Call
   -- a picture's width, height and levels, then x and y
   sample : ℕ → ℕ → List ℕ → ℤ → ℤ → Call
   -- s and p
@@ -32,18 +32,18 @@ pub data Call : Type 0 where
 -- and what comes back: eighths or halves of the levels, or what the call answers
 abbrev pub Answer : Call → Type 0
 Answer (filter w h levels) = List ℕ
-Answer (first-pass w h levels) = List ℕ
+Answer (first_pass w h levels) = List ℕ
 Answer (judge N M m D) = Verdict
-Answer (two-means counts v l) = Threshold
+Answer (two_means counts v l) = Threshold
 Answer (sample w h levels x y) = Sampled
 Answer (length s p) = Sharpness
 
 infix 70 ◌gives◌
-infix 70 ◌rests-in◌
+infix 70 ◌rests_in◌
 pub data Case : Type 0 where
   ◌gives◌ : (c : Call) → Answer c → Case
   -- a level, and a histogram
-  ◌rests-in◌ : ℕ → List (ℕ × ℕ) → Case
+  ◌rests_in◌ : ℕ → List (ℕ × ℕ) → Case
 
 -- "A place is x, y in sixteenths of a pixel: column i, row j and remainders k": one of the two
 abbrev pub coordinate : ℕ → ℕ → ℤ
@@ -60,11 +60,11 @@ abbrev pub Holds : Case → Type 0
 Holds (filter w h levels gives expected) =
     (output work : List ℕ) → w * h ≤ ListN.length output → w * h ≤ ListN.length work
     → (r : Outcome) → FilterIs levels w h output work r → (r.number ≡ 0) × (r.output ≡ expected ++ ListN.drop (w * h) output)
-Holds (first-pass w h levels gives expected) = passOne w h levels ≡ expected
+Holds (first_pass w h levels gives expected) = pass_one w h levels ≡ expected
 Holds (judge N M m D gives v) = Only (JudgeIs N (eighths M) (eighths m) D) v
-Holds (two-means counts v l gives t) =
+Holds (two_means counts v l gives t) =
     (start 128 (histogram counts) ≡ level v)
     × (Walk (histogram counts) (level v) l t.value × Only (TwoMeansIs (histogram counts)) t)
 Holds (sample w h levels x y gives s) = Only (SampleIs levels w h (sixteenths x) (sixteenths y)) s
 Holds (length s p gives r) = Only (LengthIs (sixteenths (pos s)) (picometres p)) r
-Holds (v rests-in counts) = Rests (histogram counts) (level v)
+Holds (v rests_in counts) = Rests (histogram counts) (level v)

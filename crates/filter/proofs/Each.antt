@@ -8,40 +8,40 @@ use native.Mathlib.Omega.{arith}
 use lib.ListN.{length, get_or, take}
 use lib.Seq.{get_or-take, length-take-le}
 use Rattle.arithmetic.specs.Sums.{sum}
-use Rattle.arithmetic.proofs.Sums.{sum-none, sum_first, sum_more, sum-most, sum_same, sum-equal}
+use Rattle.arithmetic.proofs.Sums.{sum_none, sum_first, sum_more, sum_most, sum_same, sum_equal}
 use Rattle.filter.specs.Median.{sorted}
-use Rattle.filter.proofs.Sorting.{same-levels}
+use Rattle.filter.proofs.Sorting.{same_levels}
 
 unfoldable pub each : (ℕ → ℕ) → List ℕ → ℕ
 each f l = sum (length l) (λ i. f (get_or l i 0))
 
 -- ---- the order of the levels does not matter
-each-cons : (f : ℕ → ℕ) (x : ℕ) (l : List ℕ) → each f (x ∷ l) ≡ f x + each f l
+each_cons : (f : ℕ → ℕ) (x : ℕ) (l : List ℕ) → each f (x ∷ l) ≡ f x + each f l
 unfolding each
-each-cons f x l = sum_first (length l) (λ i. f (get_or (x ∷ l) i 0))
+each_cons f x l = sum_first (length l) (λ i. f (get_or (x ∷ l) i 0))
 
 each_same : (f : ℕ → ℕ) {l m : List ℕ} → Permᴰ l m → each f l ≡ each f m
 each_same f Permᴰ.nil = refl
-each_same f (Permᴰ.cons e p) = simp (each-cons, e, each_same f p)
-each_same f (Permᴰ.swap e g) = simp (each-cons, e, g) (omega arith)
+each_same f (Permᴰ.cons e p) = simp (each_cons, e, each_same f p)
+each_same f (Permᴰ.swap e g) = simp (each_cons, e, g) (omega arith)
 each_same f (Permᴰ.trans p q) = each_same f p ∙ each_same f q
 
-pub each-sorted : (f : ℕ → ℕ) (l : List ℕ) → each f (sorted l) ≡ each f l
-each-sorted f l = ∥∥₁_elim (same-levels l) (ℕ_set (each f (sorted l)) (each f l)) (each_same f)
+pub each_sorted : (f : ℕ → ℕ) (l : List ℕ) → each f (sorted l) ≡ each f l
+each_sorted f l = ∥∥₁_elim (same_levels l) (ℕ_set (each f (sorted l)) (each f l)) (each_same f)
 
 -- those of two lists, one after the other
 pub each_append : (f : ℕ → ℕ) (l m : List ℕ) → each f (l ++ m) ≡ each f l + each f m
 unfolding each
-each_append f [] m = omega (arith, sum-none (λ i. f (get_or [] i 0)))
-each_append f (x ∷ l) m = omega (arith, each-cons f x (l ++ m), each-cons f x l, each_append f l m)
+each_append f [] m = omega (arith, sum_none (λ i. f (get_or [] i 0)))
+each_append f (x ∷ l) m = omega (arith, each_cons f x (l ++ m), each_cons f x l, each_append f l m)
 
 -- one for each level is how many there are
-each-one : (l : List ℕ) → each (λ _. 1) l ≡ length l
+each_one : (l : List ℕ) → each (λ _. 1) l ≡ length l
 unfolding each
-each-one l = omega (arith, sum-equal 1 (length l) (λ _. 1) (λ i h. refl))
+each_one l = omega (arith, sum_equal 1 (length l) (λ _. 1) (λ i h. refl))
 
-pub length-sorted : (l : List ℕ) → length (sorted l) ≡ length l
-length-sorted l = sym (each-one (sorted l)) ∙ each-sorted (λ _. 1) l ∙ each-one l
+pub length_sorted : (l : List ℕ) → length (sorted l) ≡ length l
+length_sorted l = sym (each_one (sorted l)) ∙ each_sorted (λ _. 1) l ∙ each_one l
 
 -- ---- of the first k levels
 module _ (f : ℕ → ℕ) (t : List ℕ) where
@@ -55,4 +55,4 @@ module _ (f : ℕ → ℕ) (t : List ℕ) where
 
   -- no more than there are levels, where f is at most 1
   pub each-few : ((x : ℕ) → f x ≤ 1) → (k : ℕ) → k ≤ length t → each f (take k t) ≤ k
-  each-few small k h = omega (arith, each_first k h, sum-most 1 k (λ i. f (get_or t i 0)) (λ i. small (get_or t i 0)))
+  each-few small k h = omega (arith, each_first k h, sum_most 1 k (λ i. f (get_or t i 0)) (λ i. small (get_or t i 0)))

@@ -2,7 +2,7 @@
 --   rank_is      what has at most r levels below it and at most n − 1 − r above it is the sorted list's level at rank r
 --   rank-has     that level has no more of either
 --   some_level   and it is one of the levels
--- and so `middle-of-nine`, the sentence itself; and where each level stands twice, the median is the same. Assumes nothing.
+-- and so `middle_of_nine`, the sentence itself; and where each level stands twice, the median is the same. Assumes nothing.
 use mathlib.Core.Path.{◌≡◌, refl, sym, ap, ◌∙◌}
 use mathlib.Core.List.{List, [], ◌∷◌, ◌++◌}
 use Prim.Native.Nat.{ℕ, zero, suc, ◌+◌, ◌-◌, ◌*◌, ◌/◌, ◌≤◌, ◌<◌}
@@ -10,39 +10,39 @@ use native.Mathlib.Decide.{dec_le}
 use native.Mathlib.Omega.{arith}
 use borrow.Author.Tests.{lt-ltb, le-ltb}
 use lib.ListN.{length, get_or, length-append}
-use Rattle.arithmetic.proofs.Sums.{sum-most, sum-equal, sum-add, sum-cut}
-use Rattle.filter.specs.Median.{sorted, twiceMedian}
-use Rattle.filter.specs.Counting.{oneBelow, countBelow, countAbove, OfRank}
+use Rattle.arithmetic.proofs.Sums.{sum_most, sum_equal, sum_add, sum_cut}
+use Rattle.filter.specs.Median.{sorted, twice_median}
+use Rattle.filter.specs.Counting.{one_below, count_below, count_above, OfRank}
 use Rattle.filter.proofs.Sorting.{Ascending, ascending, odd}
-use Rattle.filter.proofs.Each.{each, each-sorted, each_append, length-sorted}
+use Rattle.filter.proofs.Each.{each, each_sorted, each_append, length_sorted}
 
 -- ---- one level below another
-pub one_below : (a b : ℕ) → a < b → oneBelow a b ≡ 1
-unfolding oneBelow
-one_below a b h = rw (lt-ltb a b h)
+pub one_where_below : (a b : ℕ) → a < b → one_below a b ≡ 1
+unfolding one_below
+one_where_below a b h = rw (lt-ltb a b h)
 
-pub none_below : (a b : ℕ) → b ≤ a → oneBelow a b ≡ 0
-unfolding oneBelow
-none_below a b h = rw (le-ltb a b h)
+pub none_where_below : (a b : ℕ) → b ≤ a → one_below a b ≡ 0
+unfolding one_below
+none_where_below a b h = rw (le-ltb a b h)
 
-pub one-most : (a b : ℕ) → oneBelow a b ≤ 1
-one-most a b = elim (dec_le b a) [ yes h ↦ omega (arith, none_below a b h) | no h ↦ omega (arith, one_below a b (omega arith)) ]
+pub one_most : (a b : ℕ) → one_below a b ≤ 1
+one_most a b = elim (dec_le b a) [ yes h ↦ omega (arith, none_where_below a b h) | no h ↦ omega (arith, one_where_below a b (omega arith)) ]
 
 -- of two that differ, one lies below the other
-one_side : (a b : ℕ) → (a ≡ b → ⊥) → oneBelow a b + oneBelow b a ≡ 1
+one_side : (a b : ℕ) → (a ≡ b → ⊥) → one_below a b + one_below b a ≡ 1
 one_side a b d = elim (dec_le b a) [
-  | yes h ↦ let less : b < a = omega arith in omega (arith, none_below a b h, one_below b a less)
-  | no h ↦ let less : a < b = omega arith in omega (arith, one_below a b less, none_below b a (omega arith))
+  | yes h ↦ let less : b < a = omega arith in omega (arith, none_where_below a b h, one_where_below b a less)
+  | no h ↦ let less : a < b = omega arith in omega (arith, one_where_below a b less, none_where_below b a (omega arith))
 ]
 
 -- ---- sorted, the levels are as many below v and above it
-sorted-below : (v : ℕ) (l : List ℕ) → countBelow v (sorted l) ≡ countBelow v l
-unfolding countBelow each
-sorted-below v l = each-sorted (λ x. oneBelow x v) l
+sorted_below : (v : ℕ) (l : List ℕ) → count_below v (sorted l) ≡ count_below v l
+unfolding count_below each
+sorted_below v l = each_sorted (λ x. one_below x v) l
 
-sorted-above : (v : ℕ) (l : List ℕ) → countAbove v (sorted l) ≡ countAbove v l
-unfolding countAbove each
-sorted-above v l = each-sorted (λ x. oneBelow v x) l
+sorted_above : (v : ℕ) (l : List ℕ) → count_above v (sorted l) ≡ count_above v l
+unfolding count_above each
+sorted_above v l = each_sorted (λ x. one_below v x) l
 
 -- ---- in an ascending list
 rising : (s : List ℕ) → Ascending s → (i j : ℕ) → i ≤ j → j < length s → get_or s i 0 ≤ get_or s j 0
@@ -63,39 +63,39 @@ module _ (s : List ℕ) (up : Ascending s) (r : ℕ) (inside : r < length s) whe
   from_on i h = rising s up r (r + i) (omega arith) (omega arith)
 
   -- where it lies below v, so do all up to it: r + 1 levels
-  many_below : (v : ℕ) → get_or s r 0 < v → r < countBelow v s
-  unfolding countBelow
+  many_below : (v : ℕ) → get_or s r 0 < v → r < count_below v s
+  unfolding count_below
   many_below v h =
-      let below : ℕ → ℕ = λ i. oneBelow (get_or s i 0) v in
-      let all = sum-equal 1 (r + 1) below (λ i g. one_below (get_or s i 0) v (omega (arith, up_to i g))) in
-      omega (arith, all, sum-cut below (r + 1) (length s) (omega arith))
+      let below : ℕ → ℕ = λ i. one_below (get_or s i 0) v in
+      let all = sum_equal 1 (r + 1) below (λ i g. one_where_below (get_or s i 0) v (omega (arith, up_to i g))) in
+      omega (arith, all, sum_cut below (r + 1) (length s) (omega arith))
 
   -- where it lies above v, so do all from it on: n − r levels
-  many-above : (v : ℕ) → v < get_or s r 0 → length s - 1 - r < countAbove v s
-  unfolding countAbove
+  many-above : (v : ℕ) → v < get_or s r 0 → length s - 1 - r < count_above v s
+  unfolding count_above
   many-above v h =
-      let above : ℕ → ℕ = λ i. oneBelow v (get_or s i 0) in
-      let all = sum-equal 1 (length s - r) (λ i. above (r + i)) (λ i g. one_below v (get_or s (r + i) 0) (omega (arith, from_on i g))) in
-      omega (arith, all, sum-cut above r (length s) (omega arith))
+      let above : ℕ → ℕ = λ i. one_below v (get_or s i 0) in
+      let all = sum_equal 1 (length s - r) (λ i. above (r + i)) (λ i g. one_where_below v (get_or s (r + i) 0) (omega (arith, from_on i g))) in
+      omega (arith, all, sum_cut above r (length s) (omega arith))
 
   -- below it lie at most the r before it
-  few-under : countBelow (get_or s r 0) s ≤ r
-  unfolding countBelow
+  few-under : count_below (get_or s r 0) s ≤ r
+  unfolding count_below
   few-under =
       let w = get_or s r 0 in
-      let below : ℕ → ℕ = λ i. oneBelow (get_or s i 0) w in
-      let none = sum-equal 0 (length s - r) (λ i. below (r + i)) (λ i g. none_below (get_or s (r + i) 0) w (from_on i g)) in
-      omega (arith, none, sum-most 1 r below (λ i. one-most (get_or s i 0) w), sum-cut below r (length s) (omega arith))
+      let below : ℕ → ℕ = λ i. one_below (get_or s i 0) w in
+      let none = sum_equal 0 (length s - r) (λ i. below (r + i)) (λ i g. none_where_below (get_or s (r + i) 0) w (from_on i g)) in
+      omega (arith, none, sum_most 1 r below (λ i. one_most (get_or s i 0) w), sum_cut below r (length s) (omega arith))
 
   -- above it at most the n − 1 − r after it
-  few-over : countAbove (get_or s r 0) s ≤ length s - 1 - r
-  unfolding countAbove
+  few-over : count_above (get_or s r 0) s ≤ length s - 1 - r
+  unfolding count_above
   few-over =
       let w = get_or s r 0 in
-      let above : ℕ → ℕ = λ i. oneBelow w (get_or s i 0) in
-      let none = sum-equal 0 (r + 1) above (λ i g. none_below w (get_or s i 0) (up_to i g)) in
-      let few = sum-most 1 (length s - (r + 1)) (λ i. above (r + 1 + i)) (λ i. one-most w (get_or s (r + 1 + i) 0)) in
-      omega (arith, none, few, sum-cut above (r + 1) (length s) (omega arith))
+      let above : ℕ → ℕ = λ i. one_below w (get_or s i 0) in
+      let none = sum_equal 0 (r + 1) above (λ i g. none_where_below w (get_or s i 0) (up_to i g)) in
+      let few = sum_most 1 (length s - (r + 1)) (λ i. above (r + 1 + i)) (λ i. one_most w (get_or s (r + 1 + i) 0)) in
+      omega (arith, none, few, sum_cut above (r + 1) (length s) (omega arith))
 
 -- ---- the law
 module _ (l : List ℕ) (r : ℕ) (inside : r < length l) where
@@ -104,7 +104,7 @@ module _ (l : List ℕ) (r : ℕ) (inside : r < length l) where
 
   -- sorted, there are as many levels
   in-sorted : r < length (sorted l)
-  in-sorted = omega (arith, length-sorted l)
+  in-sorted = omega (arith, length_sorted l)
 
   -- What has at most r levels below it and at most n − 1 − r above it is the sorted list's level at rank r. Several equal levels may
   -- have that: it does not matter which of them is found.
@@ -115,38 +115,38 @@ module _ (l : List ℕ) (r : ℕ) (inside : r < length l) where
   ]
     where
       too-many-below : ranked < v → ⊥
-      too-many-below h = omega (arith, few.few-below, sorted-below v l, many_below (sorted l) (ascending l) r in-sorted v h)
+      too-many-below h = omega (arith, few.few_below, sorted_below v l, many_below (sorted l) (ascending l) r in-sorted v h)
 
       too-many-above : v < ranked → ⊥
       too-many-above h =
-          omega (arith, few.few-above, sorted-above v l, length-sorted l, many-above (sorted l) (ascending l) r in-sorted v h)
+          omega (arith, few.few_above, sorted_above v l, length_sorted l, many-above (sorted l) (ascending l) r in-sorted v h)
 
   -- that level has no more below it, and no more above it
   pub rank-has : OfRank l r ranked
   rank-has =
       record {
-        few-below = omega (arith, sorted-below ranked l, few-under (sorted l) (ascending l) r in-sorted);
-        few-above = omega (arith, sorted-above ranked l, length-sorted l, few-over (sorted l) (ascending l) r in-sorted);
+        few_below = omega (arith, sorted_below ranked l, few-under (sorted l) (ascending l) r in-sorted);
+        few_above = omega (arith, sorted_above ranked l, length_sorted l, few-over (sorted l) (ascending l) r in-sorted);
       }
 
   -- and it is one of the levels: were each another, each would lie below it or above it, and that many do not
   pub some_level : ((i : ℕ) → i < length l → get_or l i 0 ≡ ranked → ⊥) → ⊥
-  unfolding countBelow countAbove
+  unfolding count_below count_above
   some_level other =
-      let below : ℕ → ℕ = λ i. oneBelow (get_or l i 0) ranked in
-      let above : ℕ → ℕ = λ i. oneBelow ranked (get_or l i 0) in
-      let all = sum-equal 1 (length l) (λ i. below i + above i) (λ i h. one_side (get_or l i 0) ranked (other i h)) in
-      omega (arith, rank-has.few-below, rank-has.few-above, all, sum-add (length l) below above)
+      let below : ℕ → ℕ = λ i. one_below (get_or l i 0) ranked in
+      let above : ℕ → ℕ = λ i. one_below ranked (get_or l i 0) in
+      let all = sum_equal 1 (length l) (λ i. below i + above i) (λ i h. one_side (get_or l i 0) ranked (other i h)) in
+      omega (arith, rank-has.few_below, rank-has.few_above, all, sum_add (length l) below above)
 
 -- ---- where each level stands twice, the middle is the same
 module _ (l : List ℕ) (r : ℕ) (inside : r < length l) where
-  twice-below : (v : ℕ) → countBelow v (l ++ l) ≡ countBelow v l + countBelow v l
-  unfolding countBelow each
-  twice-below v = each_append (λ x. oneBelow x v) l l
+  twice-below : (v : ℕ) → count_below v (l ++ l) ≡ count_below v l + count_below v l
+  unfolding count_below each
+  twice-below v = each_append (λ x. one_below x v) l l
 
-  twice-above : (v : ℕ) → countAbove v (l ++ l) ≡ countAbove v l + countAbove v l
-  unfolding countAbove each
-  twice-above v = each_append (λ x. oneBelow v x) l l
+  twice-above : (v : ℕ) → count_above v (l ++ l) ≡ count_above v l + count_above v l
+  unfolding count_above each
+  twice-above v = each_append (λ x. one_below v x) l l
 
   -- the level of rank r has ranks 2r and 2r + 1
   twice-ranked : (q : ℕ) → q / 2 ≡ r → get_or (sorted (l ++ l)) q 0 ≡ ranked l r inside
@@ -155,12 +155,12 @@ module _ (l : List ℕ) (r : ℕ) (inside : r < length l) where
       let has = rank-has l r inside in
       let long = length-append l l in
       sym (rank_is (l ++ l) q (omega arith) v
-      (record { few-below = omega (arith, twice-below v, has.few-below); few-above = omega (arith, twice-above v, has.few-above) }))
+      (record { few_below = omega (arith, twice-below v, has.few_below); few_above = omega (arith, twice-above v, has.few_above) }))
 
-pub twice-the-levels : (l : List ℕ) → twiceMedian (l ++ l) ≡ twiceMedian l
-unfolding twiceMedian
-twice-the-levels [] = refl
-twice-the-levels (x ∷ l) =
+pub twice_the_levels : (l : List ℕ) → twice_median (l ++ l) ≡ twice_median l
+unfolding twice_median
+twice_the_levels [] = refl
+twice_the_levels (x ∷ l) =
     let n = length (x ∷ l) in
     let long = length-append (x ∷ l) (x ∷ l) in
     let lower : (length (x ∷ l ++ (x ∷ l)) - 1) / 2 / 2 ≡ (n - 1) / 2 = omega arith in
@@ -168,7 +168,7 @@ twice-the-levels (x ∷ l) =
     rw (twice-ranked (x ∷ l) ((n - 1) / 2) (omega arith) _ lower, twice-ranked (x ∷ l) (n / 2) (omega arith) _ upper)
 
 -- ---- the sentence: nine levels, and v with at most four below it and at most four above it
-pub middle-of-nine : (l : List ℕ) (v : ℕ) → length l ≡ 9 → countBelow v l ≤ 4 → countAbove v l ≤ 4 → twiceMedian l ≡ 2 * v
-middle-of-nine l v nine below above =
-    let few : OfRank l 4 v = record { few-below = below; few-above = omega arith } in
+pub middle_of_nine : (l : List ℕ) (v : ℕ) → length l ≡ 9 → count_below v l ≤ 4 → count_above v l ≤ 4 → twice_median l ≡ 2 * v
+middle_of_nine l v nine below above =
+    let few : OfRank l 4 v = record { few_below = below; few_above = omega arith } in
     odd l 4 nine ∙ ap (λ (x : ℕ). 2 * x) (sym (rank_is l 4 (omega arith) v few))

@@ -12,17 +12,17 @@ use lib.ListN.{length, take, drop}
 use lib.Seq.{length-take-le}
 use Rattle.arithmetic.specs.Lists.{AtMost, joined}
 use Rattle.answers.specs.Refusals.{Unless}
-use Rattle.arithmetic.proofs.Lists.{no-elements}
+use Rattle.arithmetic.proofs.Lists.{no_elements}
 use Rattle.answers.proofs.Refusals.{stops, goes_on, past}
 use Rattle.filter.specs.Median.{row_of}
-use Rattle.filter.specs.Row.{Beside, Small, RowOutcome, rowOutcome, RowIs}
+use Rattle.filter.specs.Row.{Beside, Small, RowOutcome, row_outcome, RowIs}
 use Rattle.filter.specs.inside.Asked.{Row, Two, Three, Around, Onto}
-use Rattle.filter.proofs.Blocks.{lower-row, alone-row}
+use Rattle.filter.proofs.Blocks.{lower_row, alone_row}
 
 -- ---- the tests
 -- a row that has values may lie beside one of n where it has as many
-pub beside-is : (n values : ℕ) → (values ≡ 0 → ⊥) → Unless (Beside n values) (eqb values n ≡ false) (eqb values n ≡ true)
-beside-is n values some = elim (ℕ_discrete values n) [
+pub beside_is : (n values : ℕ) → (values ≡ 0 → ⊥) → Unless (Beside n values) (eqb values n ≡ false) (eqb values n ≡ true)
+beside_is n values some = elim (ℕ_discrete values n) [
   | yes e ↦ goes_on (inr e) (eq-eqb values n e)
   | no g ↦ stops (neither g) (ne_eqb values n g)
 ]
@@ -47,55 +47,55 @@ module _ {above here below out : List ℕ} (asked : Onto (Around above here belo
   abbrev Beside-it : List ℕ → Type 0
   Beside-it row = Row (length here) row
 
-  above-row : (length above ≡ 0 → ⊥) → Beside-it above
-  above-row some = record { long = there some asked.rows.above-fits; small = asked.rows.above-small }
+  above_row : (length above ≡ 0 → ⊥) → Beside-it above
+  above_row some = record { long = there some asked.rows.above_fits; small = asked.rows.above_small }
 
-  here-row : Beside-it here
-  here-row = record { long = refl; small = asked.rows.here-small }
+  here_row : Beside-it here
+  here_row = record { long = refl; small = asked.rows.here_small }
 
   below_row : (length below ≡ 0 → ⊥) → Beside-it below
-  below_row some = record { long = there some asked.rows.below-fits; small = asked.rows.below-small }
+  below_row some = record { long = there some asked.rows.below_fits; small = asked.rows.below_small }
 
   -- a row of no values
   pub none_here : length here ≡ 0 → out ≡ row_of above here below
   unfolding row_of joined
-  none_here z = no-elements out (asked.room ∙ z) ∙ rw z
+  none_here z = no_elements out (asked.room ∙ z) ∙ rw z
 
   -- a row alone
   pub alone : 1 ≤ length here → Onto (Two here here) here out
-  alone some = record { rows = record { upper-row = here-row; lower-row = here-row; some = some }; room = asked.room }
+  alone some = record { rows = record { upper_row = here_row; lower_row = here_row; some = some }; room = asked.room }
 
   pub alone-is : length above ≡ 0 → length below ≡ 0 → row_of [] here here ≡ row_of above here below
-  alone-is a b = rw (no-elements above a, no-elements below b) (alone-row here)
+  alone-is a b = rw (no_elements above a, no_elements below b) (alone_row here)
 
   -- none above it
   pub first : 1 ≤ length here → (length below ≡ 0 → ⊥) → Onto (Two here below) here out
-  first some b = record { rows = record { upper-row = here-row; lower-row = below_row b; some = some }; room = asked.room }
+  first some b = record { rows = record { upper_row = here_row; lower_row = below_row b; some = some }; room = asked.room }
 
   pub first-is : length above ≡ 0 → row_of [] here below ≡ row_of above here below
-  first-is a = rw (no-elements above a)
+  first-is a = rw (no_elements above a)
 
   -- none below it
   pub last : 1 ≤ length here → (length above ≡ 0 → ⊥) → Onto (Two above here) above out
   last some a =
-      let long = (above-row a).long in
+      let long = (above_row a).long in
       record {
         rows = record {
-          upper-row = record { long = refl; small = (above-row a).small };
-          lower-row = record { long = sym long; small = here-row.small };
+          upper_row = record { long = refl; small = (above_row a).small };
+          lower_row = record { long = sym long; small = here_row.small };
           some = omega arith;
         };
         room = asked.room ∙ sym long;
       }
 
   pub last-is : (length above ≡ 0 → ⊥) → length below ≡ 0 → row_of [] above here ≡ row_of above here below
-  last-is a b = rw (no-elements below b) (sym (lower-row above here (above-row a).long))
+  last-is a b = rw (no_elements below b) (sym (lower_row above here (above_row a).long))
 
   -- both
   pub inside : 1 ≤ length here → (length above ≡ 0 → ⊥) → (length below ≡ 0 → ⊥) → Onto (Three above here below) here out
   inside some a b =
       record {
-        rows = record { above-row = above-row a; here-row = here-row; below_row = below_row b; some = some };
+        rows = record { above_row = above_row a; here_row = here_row; below_row = below_row b; some = some };
         room = asked.room;
       }
 
@@ -103,33 +103,33 @@ module _ {above here below out : List ℕ} (asked : Onto (Around above here belo
 -- slices that no number refuses
 pub record RowFits (above here below output : List ℕ) : Type 0 where
   pub beside : Beside (length here) (length above) × Beside (length here) (length below)
-  pub long-output : length here ≤ length output
+  pub long_output : length here ≤ length output
   pub small : Small above here below
 
 -- what `any_row` asks, with the output's front for the row
-pub row-asks : {above here below output : List ℕ} → RowFits above here below output
+pub row_asks : {above here below output : List ℕ} → RowFits above here below output
     → Onto (Around above here below) here (take (length here) output)
-row-asks {above} {here} {below} {output} fit =
+row_asks {above} {here} {below} {output} fit =
     record {
       rows = record {
-        above-fits = fit.beside.0;
-        below-fits = fit.beside.1;
-        above-small = fit.small.0;
-        here-small = fit.small.1;
-        below-small = fit.small.2;
+        above_fits = fit.beside.0;
+        below_fits = fit.beside.1;
+        above_small = fit.small.0;
+        here_small = fit.small.1;
+        below_small = fit.small.2;
       };
-      room = length-take-le (length here) output fit.long-output;
+      room = length-take-le (length here) output fit.long_output;
     }
 
 module _ (above here below output : List ℕ) where
   -- a call that is done
   pub row_done : (row : List ℕ) → RowFits above here below output → row ≡ row_of above here below
-      → RowIs above here below output (rowOutcome 0 (row ++ drop (length here) output))
+      → RowIs above here below output (row_outcome 0 (row ++ drop (length here) output))
   row_done row f is =
-      goes_on f.beside (goes_on f.long-output (goes_on f.small
-      (ap (λ (l : List ℕ). rowOutcome 0 (l ++ drop (length here) output)) is)))
+      goes_on f.beside (goes_on f.long_output (goes_on f.small
+      (ap (λ (l : List ℕ). row_outcome 0 (l ++ drop (length here) output)) is)))
 
   -- what a caller knows whose slices fit
   pub when-row-fits : (r : RowOutcome) → RowFits above here below output → RowIs above here below output r
-      → r ≡ rowOutcome 0 (row_of above here below ++ drop (length here) output)
-  when-row-fits r f d = past f.small (past f.long-output (past f.beside d))
+      → r ≡ row_outcome 0 (row_of above here below ++ drop (length here) output)
+  when-row-fits r f d = past f.small (past f.long_output (past f.beside d))

@@ -9,28 +9,28 @@ use borrow.Author.Count.{below_more}
 use lib.ListN.{length, get_or, take}
 use lib.Seq.{get_or-take, length-take-le}
 use Rattle.answers.specs.Refusals.{Unless}
-use Rattle.arithmetic.proofs.Sums.{sum-none}
-use Rattle.filter.specs.Median.{sorted, twiceMedian}
-use Rattle.filter.specs.Counting.{oneBelow, countBelow, countAbove, OfRank}
+use Rattle.arithmetic.proofs.Sums.{sum_none}
+use Rattle.filter.specs.Median.{sorted, twice_median}
+use Rattle.filter.specs.Counting.{one_below, count_below, count_above, OfRank}
 use Rattle.filter.specs.inside.Counting.{SidesAre, MiddleRanks, Few}
 use Rattle.filter.proofs.Each.{each, each_more, each-few}
-use Rattle.filter.proofs.Ranks.{none_below, one-most, rank_is, rank-has, some_level}
+use Rattle.filter.proofs.Ranks.{none_where_below, one_most, rank_is, rank-has, some_level}
 
 -- ---- both counts of v, among the first k of t
 module _ (t : List ℕ) (v : ℕ) where
   -- of none
   pub sides-none : SidesAre v (take 0 t) 0 0
-  unfolding countBelow countAbove
-  sides-none = record { below-is = sym (sum-none _); above-is = sym (sum-none _) }
+  unfolding count_below count_above
+  sides-none = record { below_is = sym (sum_none _); above_is = sym (sum_none _) }
 
   -- of one level more
   pub sides-more : (k below above : ℕ) → k < length t → SidesAre v (take k t) below above
-      → SidesAre v (take (k + 1) t) (below + oneBelow (get_or t k 0) v) (above + oneBelow v (get_or t k 0))
-  unfolding countBelow countAbove each
+      → SidesAre v (take (k + 1) t) (below + one_below (get_or t k 0) v) (above + one_below v (get_or t k 0))
+  unfolding count_below count_above each
   sides-more k below above inside so_far =
       record {
-        below-is = omega (arith, so_far.below-is, each_more (λ x. oneBelow x v) t k inside);
-        above-is = omega (arith, so_far.above-is, each_more (λ x. oneBelow v x) t k inside);
+        below_is = omega (arith, so_far.below_is, each_more (λ x. one_below x v) t k inside);
+        above_is = omega (arith, so_far.above_is, each_more (λ x. one_below v x) t k inside);
       }
 
   -- which may be v itself: it lies neither below nor above itself
@@ -39,16 +39,16 @@ module _ (t : List ℕ) (v : ℕ) where
   sides_itself k below above inside is so_far =
       let more = sides-more k below above inside so_far in
       record {
-        below-is = omega (arith, more.below-is, none_below (get_or t k 0) v (omega arith));
-        above-is = omega (arith, more.above-is, none_below v (get_or t k 0) (omega arith));
+        below_is = omega (arith, more.below_is, none_where_below (get_or t k 0) v (omega arith));
+        above_is = omega (arith, more.above_is, none_where_below v (get_or t k 0) (omega arith));
       }
 
   -- neither is more than the number of levels that were looked at
   pub sides-few : (k below above : ℕ) → k ≤ length t → SidesAre v (take k t) below above → (below ≤ k) × (above ≤ k)
-  unfolding countBelow countAbove each
+  unfolding count_below count_above each
   sides-few k below above inside so_far = (
-    omega (arith, so_far.below-is, each-few (λ x. oneBelow x v) t (λ x. one-most x v) k inside),
-    omega (arith, so_far.above-is, each-few (λ x. oneBelow v x) t (λ x. one-most v x) k inside),
+    omega (arith, so_far.below_is, each-few (λ x. one_below x v) t (λ x. one_most x v) k inside),
+    omega (arith, so_far.above_is, each-few (λ x. one_below v x) t (λ x. one_most v x) k inside),
   )
 
 -- ---- the search, among the levels l, for the one of rank r
@@ -72,18 +72,18 @@ module _ (l : List ℕ) (r : ℕ) (inside : r < length l) where
       (k v below above low high : ℕ)
       (is : v ≡ get_or l k 0)
       (counts : SidesAre v l below above)
-      (low-is : low ≡ r)
+      (low_is : low ≡ r)
       (high_is : high ≡ length l - 1 - r)
     where
       when-taken : Few below above low high → v ≡ get_or (sorted l) r 0
       when-taken few =
           rank_is l r inside v
-          (record { few-below = omega (arith, counts.below-is); few-above = omega (arith, counts.above-is) })
+          (record { few_below = omega (arith, counts.below_is); few_above = omega (arith, counts.above_is) })
 
       then-taken : v ≡ get_or (sorted l) r 0 → Few below above low high
       then-taken e =
           let has : OfRank l r v = rw e (rank-has l r inside) in
-          record { few-below = omega (arith, counts.below-is); few-above = omega (arith, counts.above-is) }
+          record { few_below = omega (arith, counts.below_is); few_above = omega (arith, counts.above_is) }
 
       pub sought-more : (before now : ℕ) → Unless (Few below above low high) (now ≡ before) (now ≡ v) → Sought l r k before
           → Sought l r (k + 1) now
@@ -102,8 +102,8 @@ module _ (l : List ℕ) (r : ℕ) (inside : r < length l) where
 
 -- ---- the search, among the first n of t, for both middle levels
 pub record Middles (t : List ℕ) (n k lower upper : ℕ) : Type 0 where
-  pub lower-sought : Sought (take n t) ((n - 1) / 2) k lower
-  pub upper-sought : Sought (take n t) (n / 2) k upper
+  pub lower_sought : Sought (take n t) ((n - 1) / 2) k lower
+  pub upper_sought : Sought (take n t) (n / 2) k upper
 
 module _ (t : List ℕ) (n : ℕ) (some : 1 ≤ n) (long : n ≤ length t) where
   many : length (take n t) ≡ n
@@ -122,8 +122,8 @@ module _ (t : List ℕ) (n : ℕ) (some : 1 ≤ n) (long : n ≤ length t) where
   middles-first =
       let first = in_take 0 (omega arith) in
       record {
-        lower-sought = sought-first (take n t) ((n - 1) / 2) low-inside (get_or t 0 0) first;
-        upper-sought = sought-first (take n t) (n / 2) high-inside (get_or t 0 0) first;
+        lower_sought = sought-first (take n t) ((n - 1) / 2) low-inside (get_or t 0 0) first;
+        upper_sought = sought-first (take n t) (n / 2) high-inside (get_or t 0 0) first;
       }
 
   -- of n levels n − 1 − (n − 1)/2 is n/2, so that the two ranks are also how many may lie above
@@ -136,18 +136,18 @@ module _ (t : List ℕ) (n : ℕ) (some : 1 ≤ n) (long : n ≤ length t) where
       let l = take n t in
       let v-is = is ∙ in_take k here in
       let above_lower : high ≡ length l - 1 - (n - 1) / 2 = omega (arith, many, ranks.high_is) in
-      let above-upper : low ≡ length l - 1 - n / 2 = omega (arith, many, ranks.low-is) in
-      let for-lower = sought-more l ((n - 1) / 2) low-inside k v below above low high v-is counts ranks.low-is above_lower in
+      let above-upper : low ≡ length l - 1 - n / 2 = omega (arith, many, ranks.low_is) in
+      let for-lower = sought-more l ((n - 1) / 2) low-inside k v below above low high v-is counts ranks.low_is above_lower in
       let for-upper = sought-more l (n / 2) high-inside k v below above high low v-is counts ranks.high_is above-upper in
       record {
-        lower-sought = for-lower lower lower' takes-lower so_far.lower-sought;
-        upper-sought = for-upper upper upper' takes-upper so_far.upper-sought;
+        lower_sought = for-lower lower lower' takes-lower so_far.lower_sought;
+        upper_sought = for-upper upper upper' takes-upper so_far.upper_sought;
       }
 
-  pub middles-last : (k lower upper : ℕ) → n ≤ k → Middles t n k lower upper → lower + upper ≡ twiceMedian (take n t)
-  unfolding twiceMedian
+  pub middles-last : (k lower upper : ℕ) → n ≤ k → Middles t n k lower upper → lower + upper ≡ twice_median (take n t)
+  unfolding twice_median
   middles-last k lower upper all so_far =
       let looked-at : length (take n t) ≤ k = omega (arith, many) in
-      let lower-is = sought-last (take n t) ((n - 1) / 2) low-inside k lower looked-at so_far.lower-sought in
-      let upper_is = sought-last (take n t) (n / 2) high-inside k upper looked-at so_far.upper-sought in
+      let lower-is = sought-last (take n t) ((n - 1) / 2) low-inside k lower looked-at so_far.lower_sought in
+      let upper_is = sought-last (take n t) (n / 2) high-inside k upper looked-at so_far.upper_sought in
       rw (many, lower-is, upper_is)

@@ -4,19 +4,19 @@ use Rattle.std.specs.Prelude.{cond, List, ℕ, ◌-◌, ◌≤◌, ltb, length, 
 use Rattle.arithmetic.specs.Sums.{sum}
 
 -- 1 where a lies below b, else 0
-unfoldable pub oneBelow : ℕ → ℕ → ℕ
-oneBelow a b = cond (ltb a b) 1 0
+unfoldable pub one_below : ℕ → ℕ → ℕ
+one_below a b = cond (ltb a b) 1 0
 
 -- how many of the levels lie below v; one that is equal to v does not
-unfoldable pub countBelow : ℕ → List ℕ → ℕ
-countBelow v l = sum (length l) (λ i. oneBelow (get_or l i 0) v)
+unfoldable pub count_below : ℕ → List ℕ → ℕ
+count_below v l = sum (length l) (λ i. one_below (get_or l i 0) v)
 
 -- and how many above it
-unfoldable pub countAbove : ℕ → List ℕ → ℕ
-countAbove v l = sum (length l) (λ i. oneBelow v (get_or l i 0))
+unfoldable pub count_above : ℕ → List ℕ → ℕ
+count_above v l = sum (length l) (λ i. one_below v (get_or l i 0))
 
 -- "at most four below and at most four above", of nine levels and rank 4: of n levels, v has at most r below it and at most n − 1 − r
 -- above it. Ranks are counted from 0.
 pub record OfRank (l : List ℕ) (r v : ℕ) : Type 0 where
-  pub few-below : countBelow v l ≤ r
-  pub few-above : countAbove v l ≤ length l - 1 - r
+  pub few_below : count_below v l ≤ r
+  pub few_above : count_above v l ≤ length l - 1 - r

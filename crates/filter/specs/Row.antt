@@ -17,14 +17,14 @@ pub record RowOutcome : Type 0 where
   pub number : ℕ
   pub output : List ℕ
 
-abbrev pub rowOutcome : ℕ → List ℕ → RowOutcome
-rowOutcome n output = record { number = n; output = output }
+abbrev pub row_outcome : ℕ → List ℕ → RowOutcome
+row_outcome n output = record { number = n; output = output }
 
 -- 2 for a row beside that is neither outside nor as long as the one here, 3 for an output that is shorter than it, 15 for a value that
 -- is too large, each with "nothing written"; else the row, and past it nothing changed
 abbrev pub RowIs : List ℕ → List ℕ → List ℕ → List ℕ → RowOutcome → Type 0
 RowIs above here below output r =
-    Unless (Beside (length here) (length above) × Beside (length here) (length below)) (r ≡ rowOutcome 2 output)
-    (Unless (length here ≤ length output) (r ≡ rowOutcome 3 output)
-    (Unless (Small above here below) (r ≡ rowOutcome 15 output)
-    (r ≡ rowOutcome 0 (row_of above here below ++ drop (length here) output))))
+    Unless (Beside (length here) (length above) × Beside (length here) (length below)) (r ≡ row_outcome 2 output)
+    (Unless (length here ≤ length output) (r ≡ row_outcome 3 output)
+    (Unless (Small above here below) (r ≡ row_outcome 15 output)
+    (r ≡ row_outcome 0 (row_of above here below ++ drop (length here) output))))

@@ -2,15 +2,15 @@
 // median. The loops, here and in median.rt, have small fixed numbers of turns once a caller's numbers
 // are known, so that the compiler unrolls them and works on several columns at once.
 ghost use Rattle.std.specs.Prelude.{◌≡◌, ◌++◌, ◌+◌, take};
-ghost use Rattle.filter.specs.Median.{twiceMedian};
-ghost use Rattle.filter.specs.inside.Asked.{Two, Three, Columns, cut, cutThree, Gathers};
+ghost use Rattle.filter.specs.Median.{twice_median};
+ghost use Rattle.filter.specs.inside.Asked.{Two, Three, Columns, cut, cut_three, Gathers};
 
 use crate::median;
 
 // The median of some columns of two rows, twice.
 pub(crate) fn of_two(upper: &[u16], lower: &[u16], first: usize, count: usize) -> u16
     requires { Columns (Two upper.now lower.now) upper.now first count }
-    ensures { result ≡ twiceMedian (cut first count upper.now ++ cut first count lower.now) }
+    ensures { result ≡ twice_median (cut first count upper.now ++ cut first count lower.now) }
 {
     let mut t = [0u16; 9];
     gather(&mut t, 0, upper, first, count);
@@ -27,7 +27,7 @@ pub(crate) fn of_three(
     count: usize,
 ) -> u16
     requires { Columns (Three above.now here.now below.now) here.now first count }
-    ensures { result ≡ twiceMedian (cutThree first count above.now here.now below.now) }
+    ensures { result ≡ twice_median (cut_three first count above.now here.now below.now) }
 {
     let mut t = [0u16; 9];
     gather(&mut t, 0, above, first, count);

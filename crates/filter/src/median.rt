@@ -11,8 +11,8 @@
 // `rank_is` in proofs/Ranks.antt, for any number of levels and any rank.
 ghost use Rattle.std.specs.Prelude.{◌≡◌, take};
 ghost use Rattle.answers.specs.Refusals.{Unless};
-ghost use Rattle.filter.specs.Median.{twiceMedian};
-ghost use Rattle.filter.specs.Counting.{oneBelow};
+ghost use Rattle.filter.specs.Median.{twice_median};
+ghost use Rattle.filter.specs.Counting.{one_below};
 ghost use Rattle.filter.specs.inside.Counting.{SidesAre, Count, Levels, MiddleRanks, Few, AtPlace, Counting, Pair};
 
 // Twice the median of the first n of t: the lower and the upper middle level, added; of an odd number
@@ -20,7 +20,7 @@ ghost use Rattle.filter.specs.inside.Counting.{SidesAre, Count, Levels, MiddleRa
 // one.
 pub(crate) fn twice(t: &[u16], n: usize) -> u16
     requires { Levels t.now n }
-    ensures { result ≡ twiceMedian (take n t.now) }
+    ensures { result ≡ twice_median (take n t.now) }
 {
     let ranks = middle_ranks(n);
     let mut lower = t[0];
@@ -110,7 +110,7 @@ fn count_sides(t: &[u16], from: usize, end: usize, v: u16, sides: Sides) -> Side
 // instruction, and a level is far below 32,768.
 fn one_below(a: u16, b: u16) -> u16
     requires { Pair a b }
-    ensures { result ≡ oneBelow a b }
+    ensures { result ≡ one_below a b }
 {
     if (a as i16) < (b as i16) {
         return 1;

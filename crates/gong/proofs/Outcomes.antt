@@ -6,20 +6,20 @@ use lib.IntN.{ℤ}
 use Rattle.arithmetic.specs.Fractions.{fraction}
 use Rattle.units.specs.Units.{sixteenths, picometres, eighths}
 use Rattle.scan.specs.Scan.{Scanned, scanned, RowsIs, EndIs}
-use Rattle.scan.proofs.Outcomes.{one-rows, one_end}
+use Rattle.scan.proofs.Outcomes.{one_rows, one_end}
 use Rattle.judge.specs.declared.Verdict.{Verdict}
 use Rattle.judge.specs.Judge.{verdict, JudgeIs}
 use Rattle.judge.specs.Measure.{Measurement, measurement, MeasureIs}
 use Rattle.judge.proofs.Outcomes.{one-judge, one-measure}
 use Rattle.threshold.specs.declared.Threshold.{Threshold}
 use Rattle.threshold.specs.TwoMeans.{answered, TwoMeansIs}
-use Rattle.threshold.proofs.Outcomes.{one-two-means}
+use Rattle.threshold.proofs.Outcomes.{one_two_means}
 use Rattle.sample.specs.declared.Sampled.{Sampled}
 use Rattle.sample.specs.Cubic.{sampled, SampleIs}
-use Rattle.sample.proofs.Outcomes.{one-sample}
+use Rattle.sample.proofs.Outcomes.{one_sample}
 use Rattle.length.specs.declared.Sharpness.{Sharpness}
 use Rattle.length.specs.Length.{sharpness, LengthIs}
-use Rattle.length.proofs.Outcomes.{one-length}
+use Rattle.length.proofs.Outcomes.{one_length}
 
 -- any two outcomes that `gong_judge` is permitted, the number that it returns and the ratio that it writes, are equal
 module _ (N M m D n q n' q' : ℕ) (this : JudgeIs N (eighths M) (eighths m) D (verdict n q))
@@ -62,7 +62,7 @@ module _ (n q n' q' : ℕ) (left out left' out' : List ℕ) where
       → RowsIs held levels output (scanned n' q' left' out')
       → (n ≡ n') × (q ≡ q') × (left ≡ left') × (out ≡ out')
   one-gong-scan-rows held levels output this that =
-      parts (one-rows held levels output (scanned n q left out) (scanned n' q' left' out') this that)
+      parts (one_rows held levels output (scanned n q left out) (scanned n' q' left' out') this that)
 
   pub one-gong-scan-end : (held output : List ℕ) → EndIs held output (scanned n q left out) → EndIs held output (scanned n' q' left' out')
       → (n ≡ n') × (q ≡ q') × (left ≡ left') × (out ≡ out')
@@ -72,7 +72,7 @@ module _ (n q n' q' : ℕ) (left out left' out' : List ℕ) where
 module _ (h : List ℕ) (n k a b n' k' a' b' : ℕ) (this : TwoMeansIs h (answered n k (fraction a b)))
     (that : TwoMeansIs h (answered n' k' (fraction a' b'))) where
   same-threshold : answered n k (fraction a b) ≡ answered n' k' (fraction a' b')
-  same-threshold = one-two-means h (answered n k (fraction a b)) (answered n' k' (fraction a' b')) this that
+  same-threshold = one_two_means h (answered n k (fraction a b)) (answered n' k' (fraction a' b')) this that
 
   pub one-gong-two-means : (n ≡ n') × (k ≡ k') × (a ≡ a') × (b ≡ b')
   one-gong-two-means = (
@@ -87,7 +87,7 @@ module _ (levels : List ℕ) (w h : ℕ) (x y : ℤ) (n n' : ℕ) (v v' : ℤ)
     (this : SampleIs levels w h (sixteenths x) (sixteenths y) (sampled n v))
     (that : SampleIs levels w h (sixteenths x) (sixteenths y) (sampled n' v')) where
   same-sample : sampled n v ≡ sampled n' v'
-  same-sample = one-sample levels w h (sixteenths x) (sixteenths y) (sampled n v) (sampled n' v') this that
+  same-sample = one_sample levels w h (sixteenths x) (sixteenths y) (sampled n v) (sampled n' v') this that
 
   pub one-gong-sample : (n ≡ n') × (v ≡ v')
   one-gong-sample = (ap (λ (r : Sampled). r.number) same-sample, ap (λ (r : Sampled). r.value) same-sample)
@@ -96,7 +96,7 @@ module _ (levels : List ℕ) (w h : ℕ) (x y : ℤ) (n n' : ℕ) (v v' : ℤ)
 module _ (factor : ℤ) (pixel : ℕ) (n q n' q' : ℕ) (this : LengthIs (sixteenths factor) (picometres pixel) (sharpness n q))
     (that : LengthIs (sixteenths factor) (picometres pixel) (sharpness n' q')) where
   same : sharpness n q ≡ sharpness n' q'
-  same = one-length (sixteenths factor) (picometres pixel) (sharpness n q) (sharpness n' q') this that
+  same = one_length (sixteenths factor) (picometres pixel) (sharpness n q) (sharpness n' q') this that
 
   pub one-gong-length : (n ≡ n') × (q ≡ q')
   one-gong-length = (ap (λ (r : Sharpness). r.number) same, ap (λ (r : Sharpness). r.length.0) same)

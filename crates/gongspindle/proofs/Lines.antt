@@ -10,10 +10,10 @@ use lib.Seq.{take-append_seam}
 use Rattle.answers.proofs.Refusals.{past}
 use Rattle.picture.specs.Picture.{Side}
 use Rattle.picture.proofs.Shapes.{WellShaped}
-use Rattle.filter.specs.Filter.{passThree}
+use Rattle.filter.specs.Filter.{pass_three}
 use Rattle.judge.specs.declared.Verdict.{Verdict}
 use Rattle.judge.specs.Measure.{MeasurableSide, Measurement, measurement, Measured, MeasureIs}
-use Rattle.judge.proofs.Outcomes.{when-measured}
+use Rattle.judge.proofs.Outcomes.{when_measured}
 use Rattle.threshold.specs.declared.Threshold.{Threshold}
 use Rattle.threshold.specs.Histogram.{Countable, tally, Counted, CountIs}
 use Rattle.threshold.specs.TwoMeans.{TwoMeansIs}
@@ -22,26 +22,26 @@ use Rattle.gongspindle.specs.inside.Square.{SquarePicture}
 
 -- a side of 16 or 64 is in range and can be measured, and its square has room in 4,096 places
 pub record GoodSide (side : ℕ) : Type 0 where
-  pub in-range : Side side
+  pub in_range : Side side
   pub measurable : MeasurableSide side
   pub some : 1 ≤ side * side
   pub few : side * side ≤ 4096
 
-pub good-side : {side : ℕ} → (side ≡ 16) ⊎ (side ≡ 64) → GoodSide side
-good-side (inl e) = rw e (record { in-range = (lit≤ tt, lit≤ tt); measurable = (refl, lit≤ tt); some = lit≤ tt; few = lit≤ tt })
-good-side (inr e) = rw e (record { in-range = (lit≤ tt, lit≤ tt); measurable = (refl, lit≤ tt); some = lit≤ tt; few = lit≤ tt })
+pub good_side : {side : ℕ} → (side ≡ 16) ⊎ (side ≡ 64) → GoodSide side
+good_side (inl e) = rw e (record { in_range = (lit≤ tt, lit≤ tt); measurable = (refl, lit≤ tt); some = lit≤ tt; few = lit≤ tt })
+good_side (inr e) = rw e (record { in_range = (lit≤ tt, lit≤ tt); measurable = (refl, lit≤ tt); some = lit≤ tt; few = lit≤ tt })
 
 module _ (levels : List ℕ) (side : ℕ) (square : SquarePicture side levels) where
   abbrev F : GoodSide side
-  F = good-side square.side-is
+  F = good_side square.side_is
 
   -- so measuring refuses nothing
   measured : (output work : List ℕ) (r : Measurement) → 4096 ≡ length output → 4096 ≡ length work → MeasureIs levels side side output work r
       → Measured levels side side output work r
   measured output work r a b is =
       let few = F.few in
-      let shape : WellShaped (length levels) side side = record { sides = (F.in-range, F.in-range); all-levels = square.all-levels } in
-      when-measured levels side side output work r (record { shape = shape; long-output = omega arith; long-work = omega arith })
+      let shape : WellShaped (length levels) side side = record { sides = (F.in_range, F.in_range); all_levels = square.all_levels } in
+      when_measured levels side side output work r (record { shape = shape; long_output = omega arith; long_work = omega arith })
       (F.measurable, F.measurable) is
 
   -- what was measured, counted and parted is the line
@@ -56,21 +56,21 @@ module _ (levels : List ℕ) (side : ℕ) (square : SquarePicture side levels) w
       m = measured output work (measurement v o k) a b measuring
 
       -- the values that were counted are pass three
-      values : take (length levels) o ≡ passThree side side levels
+      values : take (length levels) o ≡ pass_three side side levels
       values =
-          ap (λ (n : ℕ). take n o) (square.all-levels ∙ sym m.filtered.long)
-          ∙ ap (take (length (passThree side side levels))) m.filtered.pass-three
-          ∙ take-append_seam (passThree side side levels) (drop (side * side) output)
+          ap (λ (n : ℕ). take n o) (square.all_levels ∙ sym m.filtered.long)
+          ∙ ap (take (length (pass_three side side levels))) m.filtered.is_pass_three
+          ∙ take-append_seam (pass_three side side levels) (drop (side * side) output)
 
-      countable : Countable (passThree side side levels)
+      countable : Countable (pass_three side side levels)
       countable =
           let long = m.filtered.long in
           let some = F.some in
           let few = F.few in
           record { some = omega arith; few = omega arith; small = m.filtered.most }
 
-      all : Counted (passThree side side levels) (tally n counts)
+      all : Counted (pass_three side side levels) (tally n counts)
       all = past countable (past places (subst (λ (x : List ℕ). CountIs x histogram (tally n counts)) values counting))
 
-      counted : Counted (passThree side side levels) (tally 0 counts)
-      counted = record { number = refl; places = all.places; counts = all.counts; total-is = all.total-is }
+      counted : Counted (pass_three side side levels) (tally 0 counts)
+      counted = record { number = refl; places = all.places; counts = all.counts; total_is = all.total_is }

@@ -1,7 +1,7 @@
 -- What a picture's line says (document 01, "The program": "For a picture it prints width, height, number, q, rounds,
 -- numerator/denominator").
 use Rattle.std.specs.Prelude.{List, ℕ}
-use Rattle.filter.specs.Filter.{passThree}
+use Rattle.filter.specs.Filter.{pass_three}
 use Rattle.judge.specs.Measure.{Judged}
 use Rattle.threshold.specs.Histogram.{tally, Counted}
 use Rattle.threshold.specs.TwoMeans.{TwoMeansIs}
@@ -9,7 +9,7 @@ use Rattle.gongspindle.specs.declared.levels.Line.{Line}
 
 -- number and q are the judge's verdict on the picture; rounds and the fraction are those of its filtered levels, counted
 pub record LineIs (levels : List ℕ) (side : ℕ) (l : Line) : Type 0 where
-  pub judged : Judged levels (passThree side side levels) side side l.verdict
+  pub judged : Judged levels (pass_three side side levels) side side l.verdict
   pub histogram : List ℕ
-  pub counted : Counted (passThree side side levels) (tally 0 histogram)
+  pub counted : Counted (pass_three side side levels) (tally 0 histogram)
   pub rests : TwoMeansIs histogram l.threshold

@@ -2,12 +2,12 @@
 use mathlib.Core.Path.{◌≡◌, sym}
 use Prim.Native.Nat.{ℕ, ◌+◌, ◌<◌, ◌≤◌}
 use native.Mathlib.Omega.{arith}
-use Rattle.arithmetic.proofs.Sums.{sum-none, sum_more, sum-goes-on}
+use Rattle.arithmetic.proofs.Sums.{sum_none, sum_more, sum_goes_on}
 use Rattle.judge.specs.inside.Asked.{SumIs}
 
 module _ {f : ℕ → ℕ} {bound : ℕ} where
   pub sum-of-none : SumIs f bound 0 0
-  sum-of-none = record { is = sym (sum-none f); most = omega arith }
+  sum-of-none = record { is = sym (sum_none f); most = omega arith }
 
   module _ {n v : ℕ} (s : SumIs f bound n v) where
     -- one more
@@ -16,7 +16,7 @@ module _ {f : ℕ → ℕ} {bound : ℕ} where
 
     -- the next k, which are those of g
     pub sum-of-joined : {g : ℕ → ℕ} {k u : ℕ} → SumIs g bound k u → ((i : ℕ) → i < k → g i ≡ f (n + i)) → SumIs f bound (n + k) (v + u)
-    sum-of-joined {g} {k} t next = record { is = rw (s.is, t.is) (sum-goes-on n k f g next); most = omega (arith, s.most, t.most) }
+    sum-of-joined {g} {k} t next = record { is = rw (s.is, t.is) (sum_goes_on n k f g next); most = omega (arith, s.most, t.most) }
 
     -- where the loop ends
     pub sum-of-all : {m : ℕ} → n ≡ m → SumIs f bound m v

@@ -8,35 +8,35 @@ use native.Mathlib.Nat.{mul-le-mul, mul-le-mul_left, mul-le-mul_right, le_of_mul
 use native.Mathlib.Omega.{arith}
 use lib.Dec.{lit≤}
 use Rattle.answers.specs.Refusals.{Unless}
-use Rattle.arithmetic.proofs.Order.{of-squares}
-use Rattle.arithmetic.proofs.Greatest.{next-has-not}
+use Rattle.arithmetic.proofs.Order.{of_squares}
+use Rattle.arithmetic.proofs.Greatest.{next_has_not}
 use Rattle.units.specs.declared.Eighths.{Eighths}
-use Rattle.filter.specs.Filter.{passThree}
+use Rattle.filter.specs.Filter.{pass_three}
 use Rattle.arithmetic.specs.declared.Fraction.{Fraction}
 use Rattle.arithmetic.specs.Fractions.{fraction, NotMore}
 use Rattle.judge.specs.declared.Verdict.{Verdict}
 use Rattle.judge.specs.Extremes.{bright, dark}
-use Rattle.judge.specs.Noise.{innerPixels}
+use Rattle.judge.specs.Noise.{inner_pixels}
 use Rattle.judge.specs.Judge.{InRange, BrightInRange, DarkInRange, Reaches, RatioIs, refused, JudgeIs}
 use Rattle.judge.specs.Measure.{Judged, Measurement, Measured}
-use Rattle.judge.specs.AnnexA.{plus, times, squared, span, deviationSquared, AverageInRange, RatioFrom, RatioTen}
+use Rattle.judge.specs.AnnexA.{plus, times, squared, span, deviation_squared, AverageInRange, RatioFrom, RatioTen}
 use Rattle.judge.specs.AnnexA.{Unfit, Discarded, Exactly}
-use Rattle.judge.proofs.Ratios.{reaches-falls}
+use Rattle.judge.proofs.Ratios.{reaches_falls}
 
 -- "So q is the ratio in hundredths": the document's inequality is the annex's for q/100
-pub reaches-is : (N : ℕ) (M m : Eighths) (D q : ℕ) → Exactly (Reaches N (M.0 - m.0) D q) (RatioFrom N M m D (fraction q 100))
-reaches-is N M m D q = (λ h. omega (arith, h), λ h. omega (arith, h))
+pub reaches_is : (N : ℕ) (M m : Eighths) (D q : ℕ) → Exactly (Reaches N (M.0 - m.0) D q) (RatioFrom N M m D (fraction q 100))
+reaches_is N M m D q = (λ h. omega (arith, h), λ h. omega (arith, h))
 
 -- "rounded down": the ratio is q hundredths or more, and not q + 1; or it is below 0, and q is 0
-pub rounded-down : (N : ℕ) (M m : Eighths) (D q : ℕ) → RatioIs N (M.0 - m.0) D q
+pub rounded_down : (N : ℕ) (M m : Eighths) (D q : ℕ) → RatioIs N (M.0 - m.0) D q
     → (RatioFrom N M m D (fraction q 100) × (¬ RatioFrom N M m D (fraction (q + 1) 100)))
     ⊎ (((k : ℕ) → ¬ RatioFrom N M m D (fraction k 100)) × (q ≡ 0))
-rounded-down N M m D q (inl g) = inl ((reaches-is N M m D q).0 g.holds, λ t. next-has-not g ((reaches-is N M m D (q + 1)).1 t))
-rounded-down N M m D q (inr n) = inr (λ k t. n.0 k ((reaches-is N M m D k).1 t), n.1)
+rounded_down N M m D q (inl g) = inl ((reaches_is N M m D q).0 g.holds, λ t. next_has_not g ((reaches_is N M m D (q + 1)).1 t))
+rounded_down N M m D q (inr n) = inr (λ k t. n.0 k ((reaches_is N M m D k).1 t), n.1)
 
 -- and at 1,000 it is the annex's for 10
-ten-reaches : (N : ℕ) (M m : Eighths) (D : ℕ) → Exactly (Reaches N (M.0 - m.0) D 1000) (RatioTen N M m D)
-ten-reaches N M m D = (λ h. omega (arith, h), λ h. omega (arith, h))
+ten_reaches : (N : ℕ) (M m : Eighths) (D : ℕ) → Exactly (Reaches N (M.0 - m.0) D 1000) (RatioTen N M m D)
+ten_reaches N M m D = (λ h. omega (arith, h), λ h. omega (arith, h))
 
 -- Annex A's deviation is a root, and for most pictures no fraction. The annex asks whether r + 1.38 deviations are at most
 -- bright − dark, and `RatioFrom` asks it squared. The two say the same: `RatioFrom` gives the plain inequality for every fraction
@@ -46,39 +46,39 @@ module _ (N : ℕ) (M m : Eighths) (D : ℕ) (r s : Fraction) where
   abbrev Plain : Type 0
   Plain = NotMore (times (plus r (fraction 138 100)) s) (span M m)
 
-  pub below-deviation : 1 ≤ N → NotMore (squared s) (deviationSquared N D) → RatioFrom N M m D r → Plain
+  pub below-deviation : 1 ≤ N → NotMore (squared s) (deviation_squared N D) → RatioFrom N M m D r → Plain
   below-deviation some below ratio = go (plus r (fraction 138 100)).numerator (plus r (fraction 138 100)).denominator ratio
     where
-      go : (a b : ℕ) → NotMore (times (squared (fraction a b)) (deviationSquared N D)) (squared (span M m))
+      go : (a b : ℕ) → NotMore (times (squared (fraction a b)) (deviation_squared N D)) (squared (span M m))
           → NotMore (times (fraction a b) s) (span M m)
       go a b ratio =
-          of-squares (le_of_mul-le-mul_right
+          of_squares (le_of_mul-le-mul_right
           (omega (arith, mul-le-mul_left (a * a * 16384) below, mul-le-mul_right (s.denominator * s.denominator) ratio))
           (let whole : 0 < 64 * (N * N) = omega (arith, mul-le-mul some some) in whole))
 
-  pub above-deviation : 1 ≤ s.denominator → NotMore (deviationSquared N D) (squared s) → Plain → RatioFrom N M m D r
+  pub above-deviation : 1 ≤ s.denominator → NotMore (deviation_squared N D) (squared s) → Plain → RatioFrom N M m D r
   above-deviation some above plain = go (plus r (fraction 138 100)).numerator (plus r (fraction 138 100)).denominator plain
     where
       go : (a b : ℕ) → NotMore (times (fraction a b) s) (span M m)
-          → NotMore (times (squared (fraction a b)) (deviationSquared N D)) (squared (span M m))
+          → NotMore (times (squared (fraction a b)) (deviation_squared N D)) (squared (span M m))
       go a b plain =
           le_of_mul-le-mul_right
           (omega (arith, mul-le-mul_left (a * a * 16384) above, mul-le-mul_right (64 * (N * N)) (mul-le-mul plain plain)))
           (let whole : 0 < s.denominator * s.denominator = omega (arith, mul-le-mul some some) in whole)
 
 -- the range tests in eighths are the range tests in levels
-pub bright-is : (M : Eighths) → Exactly (BrightInRange M) (AverageInRange 170 245 M)
-bright-is M = (λ p. (omega (arith, p), omega (arith, p)), λ p. (omega (arith, p), omega (arith, p)))
+pub bright_is : (M : Eighths) → Exactly (BrightInRange M) (AverageInRange 170 245 M)
+bright_is M = (λ p. (omega (arith, p), omega (arith, p)), λ p. (omega (arith, p), omega (arith, p)))
 
-pub dark-is : (m : Eighths) → Exactly (DarkInRange m) (AverageInRange 10 80 m)
-dark-is m = (λ p. (omega (arith, p), omega (arith, p)), λ p. (omega (arith, p), omega (arith, p)))
+pub dark_is : (m : Eighths) → Exactly (DarkInRange m) (AverageInRange 10 80 m)
+dark_is m = (λ p. (omega (arith, p), omega (arith, p)), λ p. (omega (arith, p), omega (arith, p)))
 
 -- the ratio is 10 or more exactly where q is 1,000 or more
-pub ten-is : (N : ℕ) (M m : Eighths) (D q : ℕ) → RatioIs N (M.0 - m.0) D q → Exactly (1000 ≤ q) (RatioTen N M m D)
-ten-is N M m D q r = (λ p. (ten-reaches N M m D).0 (to r p), λ t. of r ((ten-reaches N M m D).1 t))
+pub ten_is : (N : ℕ) (M m : Eighths) (D q : ℕ) → RatioIs N (M.0 - m.0) D q → Exactly (1000 ≤ q) (RatioTen N M m D)
+ten_is N M m D q r = (λ p. (ten_reaches N M m D).0 (to r p), λ t. of r ((ten_reaches N M m D).1 t))
   where
     to : RatioIs N (M.0 - m.0) D q → 1000 ≤ q → Reaches N (M.0 - m.0) D 1000
-    to (inl g) p = reaches-falls N (M.0 - m.0) D 1000 q p g.holds
+    to (inl g) p = reaches_falls N (M.0 - m.0) D 1000 q p g.holds
     to (inr n) p = absurd (omega (arith, n.1))
 
     of : RatioIs N (M.0 - m.0) D q → Reaches N (M.0 - m.0) D 1000 → 1000 ≤ q
@@ -100,8 +100,8 @@ module _ (N : ℕ) (M m : Eighths) (D : ℕ) (v : Verdict) (taken : InRange N M 
   refusal n d e u = inl (rw e d, u)
 
   fit : BrightInRange M → DarkInRange m → ¬ (D ≡ 0) → RatioTen N M m D → ¬ Unfit N M m D
-  fit b k d t (inl u) = u ((bright-is M).0 b)
-  fit b k d t (inr (inl u)) = u ((dark-is m).0 k)
+  fit b k d t (inl u) = u ((bright_is M).0 b)
+  fit b k d t (inr (inl u)) = u ((dark_is m).0 k)
   fit b k d t (inr (inr (inl u))) = d u
   fit b k d t (inr (inr (inr u))) = u t
 
@@ -112,10 +112,10 @@ module _ (N : ℕ) (M m : Eighths) (D : ℕ) (v : Verdict) (taken : InRange N M 
 
   agrees : JudgeIs N M m D v → Agrees
   agrees (inl fifteen) = absurd (fifteen.0 taken)
-  agrees (inr (_, inl six)) = refusal 6 (lit≤ tt, lit≤ tt) six.1 (inl (λ w. six.0 ((bright-is M).1 w)))
-  agrees (inr (_, inr (_, inl seven))) = refusal 7 (lit≤ tt, lit≤ tt) seven.1 (inr (inl (λ w. seven.0 ((dark-is m).1 w))))
+  agrees (inr (_, inl six)) = refusal 6 (lit≤ tt, lit≤ tt) six.1 (inl (λ w. six.0 ((bright_is M).1 w)))
+  agrees (inr (_, inr (_, inl seven))) = refusal 7 (lit≤ tt, lit≤ tt) seven.1 (inr (inl (λ w. seven.0 ((dark_is m).1 w))))
   agrees (inr (_, inr (_, inr (_, inl eight)))) = refusal 8 (lit≤ tt, lit≤ tt) eight.1 (inr (inr (inl (nil D eight.0))))
-  agrees (inr (_, inr (b, inr (k, inr (d, r))))) = past-all-tests b k d (ten-is N M m D v.ratio r.ratio) r.number
+  agrees (inr (_, inr (b, inr (k, inr (d, r))))) = past-all-tests b k d (ten_is N M m D v.ratio r.ratio) r.number
 
   -- discarded exactly where a stated range is left, the noise is nil or the ratio is below 10; and else the number is 0
   pub discarded-exactly : JudgeIs N M m D v → Exactly (Discarded v.number) (Unfit N M m D) × ((v.number ≡ 0) ⊎ Discarded v.number)
@@ -127,10 +127,10 @@ module _ (N : ℕ) (M m : Eighths) (D : ℕ) (v : Verdict) (taken : InRange N M 
 -- the same of a picture and what it was filtered to, whose numbers the judge always takes
 module _ (levels filtered : List ℕ) (w h : ℕ) (v : Verdict) (j : Judged levels filtered w h v) where
   pub judged-discarded-exactly :
-      Exactly (Discarded v.number) (Unfit (innerPixels w h) (bright w h filtered) (dark w h filtered) j.spread)
+      Exactly (Discarded v.number) (Unfit (inner_pixels w h) (bright w h filtered) (dark w h filtered) j.spread)
       × ((v.number ≡ 0) ⊎ Discarded v.number)
   judged-discarded-exactly =
-      discarded-exactly (innerPixels w h) (bright w h filtered) (dark w h filtered) j.spread v j.in-range j.verdict-is
+      discarded-exactly (inner_pixels w h) (bright w h filtered) (dark w h filtered) j.spread v j.in_range j.verdict_is
 
   -- its number is never 15
   pub never-fifteen : ¬ (v.number ≡ 15)
@@ -142,10 +142,10 @@ module _ (levels : List ℕ) (w h : ℕ) (output work : List ℕ) (r : Measureme
   number = r.verdict.number
 
   abbrev filtered : List ℕ
-  filtered = passThree w h levels
+  filtered = pass_three w h levels
 
   pub measured-discarded-exactly :
-      Exactly (Discarded number) (Unfit (innerPixels w h) (bright w h filtered) (dark w h filtered) d.judged.spread)
+      Exactly (Discarded number) (Unfit (inner_pixels w h) (bright w h filtered) (dark w h filtered) d.judged.spread)
       × ((number ≡ 0) ⊎ Discarded number)
   measured-discarded-exactly = judged-discarded-exactly levels filtered w h r.verdict d.judged
 

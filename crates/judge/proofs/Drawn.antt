@@ -8,8 +8,8 @@ use native.Mathlib.Nat.{mul-le-mul_right, div-lt_iff_lt-mul, div-add-mod', mod-l
 use native.Mathlib.Decide.{dec_le}
 use native.Mathlib.Omega.{arith}
 use lib.ListN.{length, get_or, take, drop, length-take, length-drop}
-use Rattle.arithmetic.proofs.Order.{row-end}
-use Rattle.arithmetic.proofs.Lists.{length-joined, joined_at, part_at}
+use Rattle.arithmetic.proofs.Order.{row_end}
+use Rattle.arithmetic.proofs.Lists.{length_joined, joined_at, part_at}
 use Rattle.judge.specs.Extremes.{maximum, minimum, tile}
 use Rattle.judge.proofs.Maxima.{least_first}
 
@@ -19,14 +19,14 @@ In v l = (k : ℕ) × (k < length l) × (get_or l k 0 ≡ v)
 
 -- ---- what is gathered from a and the elements of a list
 -- with `max`: neither a nor an element is greater
-most-first : (a : ℕ) (l : List ℕ) → a ≤ foldl max a l
-most-first a [] = omega arith
-most-first a (x ∷ l) = omega (arith, most-first (max a x) l)
+most_first : (a : ℕ) (l : List ℕ) → a ≤ foldl max a l
+most_first a [] = omega arith
+most_first a (x ∷ l) = omega (arith, most_first (max a x) l)
 
-most-over : (a : ℕ) (l : List ℕ) (k : ℕ) → get_or l k 0 ≤ foldl max a l
-most-over a [] k = zero-le
-most-over a (x ∷ l) zero = omega (arith, most-first (max a x) l)
-most-over a (x ∷ l) (suc k) = most-over (max a x) l k
+most_over : (a : ℕ) (l : List ℕ) (k : ℕ) → get_or l k 0 ≤ foldl max a l
+most_over a [] k = zero-le
+most_over a (x ∷ l) zero = omega (arith, most_first (max a x) l)
+most_over a (x ∷ l) (suc k) = most_over (max a x) l k
 
 -- with `min`: neither is less (of a it is `least_first`)
 least_under : (a : ℕ) (l : List ℕ) (k : ℕ) → k < length l → foldl min a l ≤ get_or l k 0
@@ -46,38 +46,38 @@ module _ (f : ℕ → ℕ → ℕ) (chooses : (a x : ℕ) → (f a x ≡ a) ⊎ 
   chosen-in a [] = (0, omega arith, refl)
   chosen-in a (x ∷ l) = one_of_two a x (f a x) l (foldl f (f a x) l) (chooses a x) (chosen-in (f a x) l)
 
-max-chooses : (a x : ℕ) → (max a x ≡ a) ⊎ (max a x ≡ x)
-max-chooses a x = elim (dec_le a x) [ yes h ↦ inr (omega arith) | no h ↦ inl (omega arith) ]
+max_chooses : (a x : ℕ) → (max a x ≡ a) ⊎ (max a x ≡ x)
+max_chooses a x = elim (dec_le a x) [ yes h ↦ inr (omega arith) | no h ↦ inl (omega arith) ]
 
-min-chooses : (a x : ℕ) → (min a x ≡ a) ⊎ (min a x ≡ x)
-min-chooses a x = elim (dec_le a x) [ yes h ↦ inl (omega arith) | no h ↦ inr (omega arith) ]
+min_chooses : (a x : ℕ) → (min a x ≡ a) ⊎ (min a x ≡ x)
+min_chooses a x = elim (dec_le a x) [ yes h ↦ inl (omega arith) | no h ↦ inr (omega arith) ]
 
 -- ---- the maximum and the minimum of a list
 -- no element is greater than the maximum
-pub maximum-over : (l : List ℕ) (k : ℕ) → get_or l k 0 ≤ maximum l
+pub maximum_over : (l : List ℕ) (k : ℕ) → get_or l k 0 ≤ maximum l
 unfolding maximum
-maximum-over [] k = zero-le
-maximum-over (x ∷ l) zero = most-first x l
-maximum-over (x ∷ l) (suc k) = most-over x l k
+maximum_over [] k = zero-le
+maximum_over (x ∷ l) zero = most_first x l
+maximum_over (x ∷ l) (suc k) = most_over x l k
 
 -- and it is one of them, where there are any
-pub maximum-in : (l : List ℕ) → 1 ≤ length l → In (maximum l) l
+pub maximum_in : (l : List ℕ) → 1 ≤ length l → In (maximum l) l
 unfolding maximum
-maximum-in [] p = absurd (let z : ⊥ = omega arith in z)
-maximum-in (x ∷ l) p = chosen-in max max-chooses x l
+maximum_in [] p = absurd (let z : ⊥ = omega arith in z)
+maximum_in (x ∷ l) p = chosen-in max max_chooses x l
 
 -- no element is less than the minimum
-pub minimum-under : (l : List ℕ) (k : ℕ) → k < length l → minimum l ≤ get_or l k 0
+pub minimum_under : (l : List ℕ) (k : ℕ) → k < length l → minimum l ≤ get_or l k 0
 unfolding minimum
-minimum-under [] k p = absurd (let z : ⊥ = omega arith in z)
-minimum-under (x ∷ l) zero p = least_first x l
-minimum-under (x ∷ l) (suc k) p = least_under x l k (omega arith)
+minimum_under [] k p = absurd (let z : ⊥ = omega arith in z)
+minimum_under (x ∷ l) zero p = least_first x l
+minimum_under (x ∷ l) (suc k) p = least_under x l k (omega arith)
 
 -- and it is one of them, where there are any
-pub minimum-in : (l : List ℕ) → 1 ≤ length l → In (minimum l) l
+pub minimum_in : (l : List ℕ) → 1 ≤ length l → In (minimum l) l
 unfolding minimum
-minimum-in [] p = absurd (let z : ⊥ = omega arith in z)
-minimum-in (x ∷ l) p = chosen-in min min-chooses x l
+minimum_in [] p = absurd (let z : ⊥ = omega arith in z)
+minimum_in (x ∷ l) p = chosen-in min min_chooses x l
 
 -- ---- the tile in row b and column a of the tiles
 module _ (w h : ℕ) (x : List ℕ) (b a : ℕ) (whole : length x ≡ w * h) (row : b < 4) (column : a < 4) where
@@ -89,13 +89,13 @@ module _ (w h : ℕ) (x : List ℕ) (b a : ℕ) (whole : length x ≡ w * h) (ro
   length-tile-row j p =
       let down : b * (h / 4) ≤ 3 * (h / 4) = mul-le-mul_right (h / 4) (omega arith) in
       let across : a * (w / 4) ≤ 3 * (w / 4) = mul-le-mul_right (w / 4) (omega arith) in
-      let inside : start j + w / 4 ≤ length x = omega (arith, row-end w h (b * (h / 4) + j) (omega arith)) in
+      let inside : start j + w / 4 ≤ length x = omega (arith, row_end w h (b * (h / 4) + j) (omega arith)) in
       simp (length-take, length-drop) (omega arith)
 
   -- "tiles of w/4 by h/4 pixels"
   pub length-tile : length (tile w h x b a) ≡ h / 4 * (w / 4)
   unfolding tile
-  length-tile = length-joined (h / 4) (w / 4) _ length-tile-row
+  length-tile = length_joined (h / 4) (w / 4) _ length-tile-row
 
   -- the pixel in its row j and column i is the picture's in row b·(h/4) + j and column a·(w/4) + i
   pub tile-at : (j i : ℕ) → j < h / 4 → i < w / 4

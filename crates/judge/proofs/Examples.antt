@@ -11,14 +11,14 @@ use native.Mathlib.Nat.{not-le_of_lt}
 use native.Mathlib.Decide.{dec_le, dec_lt, ℕ_discrete}
 use Rattle.arithmetic.specs.Lists.{joined}
 use Rattle.arithmetic.specs.Sums.{sum}
-use Rattle.arithmetic.proofs.Greatest.{by-neighbours}
-use Rattle.arithmetic.proofs.Computed.{when, unless, EveryRow, every-row}
+use Rattle.arithmetic.proofs.Greatest.{by_neighbours}
+use Rattle.arithmetic.proofs.Computed.{when, unless, EveryRow, every_row}
 use Rattle.units.specs.Units.{eighths}
 use Rattle.judge.specs.declared.Verdict.{Verdict}
-use Rattle.judge.specs.Extremes.{maximum, minimum, tile, overTiles}
+use Rattle.judge.specs.Extremes.{maximum, minimum, tile, over_tiles}
 use Rattle.judge.specs.Noise.{counts}
 use Rattle.judge.specs.Judge.{InRange, Rated, verdict, refused, JudgeIs}
-use Rattle.judge.proofs.Ratios.{reaches-falls}
+use Rattle.judge.proofs.Ratios.{reaches_falls}
 use Rattle.judge.proofs.Outcomes.{one-judge}
 
 -- ---- a row of the table: what the judge is given, and what comes back
@@ -35,10 +35,10 @@ row N M m D n q = record { count = N; bright = M; dark = m; spread = D; number =
 
 -- that the judge's promise permits the row, as Judge.antt says it
 module _ (N M m D n q : ℕ) where
-  in-range : Dec (InRange N (eighths M) (eighths m) D)
-  in-range = elim (Dec.and (dec_le 1 N) (Dec.and (dec_le N 1048576) (Dec.and (dec_le M 32640) (Dec.and (dec_le m 32640) (dec_le D (2 ^ 62)))))) [
-    | yes (a, (b, (c, (d, e)))) ↦ yes (record { count_low = a; count-high = b; bright-high = c; dark-high = d; spread-high = e })
-    | no f ↦ no (λ r. f (r.count_low, (r.count-high, (r.bright-high, (r.dark-high, r.spread-high)))))
+  in_range : Dec (InRange N (eighths M) (eighths m) D)
+  in_range = elim (Dec.and (dec_le 1 N) (Dec.and (dec_le N 1048576) (Dec.and (dec_le M 32640) (Dec.and (dec_le m 32640) (dec_le D (2 ^ 62)))))) [
+    | yes (a, (b, (c, (d, e)))) ↦ yes (record { count_low = a; count_high = b; bright_high = c; dark_high = d; spread_high = e })
+    | no f ↦ no (λ r. f (r.count_low, (r.count_high, (r.bright_high, (r.dark_high, r.spread_high)))))
   ]
 
   back : (k : ℕ) → Option (verdict n q ≡ refused k)
@@ -53,7 +53,7 @@ module _ (N M m D n q : ℕ) where
   rated : Option (Rated N (eighths M) (eighths m) D (verdict n q))
   rated = elim (Dec.and (dec_le (left q) right) (dec_lt right (left (q + 1)))) [
     | yes p ↦
-        let ratio = by-neighbours (reaches-falls N (M - m) D) p.0 (not-le_of_lt p.1) in
+        let ratio = by_neighbours (reaches_falls N (M - m) D) p.0 (not-le_of_lt p.1) in
         map (λ number. record { ratio = inl ratio; number = number })
         (unless (dec_le 1000 q) (when (ℕ_discrete n 9)) (when (ℕ_discrete n 0)))
     | no f ↦ none
@@ -61,7 +61,7 @@ module _ (N M m D n q : ℕ) where
 
   permitted : Option (JudgeIs N (eighths M) (eighths m) D (verdict n q))
   permitted =
-      unless in-range (back 15)
+      unless in_range (back 15)
       (unless (Dec.and (dec_le 21760 M) (dec_le M 31360)) (back 6)
       (unless (Dec.and (dec_le 1280 m) (dec_le m 10240)) (back 7)
       (unless (Dec.not (ℕ_discrete D 0)) (back 8)
@@ -73,7 +73,7 @@ Holds r =
     (v : Verdict) → JudgeIs r.count (eighths r.bright) (eighths r.dark) r.spread v → v ≡ verdict r.number r.ratio
 
 unfoldable pub holds : (r : Row) → Option (Holds r)
-unfolding dec_le dec_lt ℕ_discrete Dec.and Dec.not when unless in-range back rated permitted
+unfolding dec_le dec_lt ℕ_discrete Dec.and Dec.not when unless in_range back rated permitted
 holds r =
     map
     (λ p v is. one-judge r.count (eighths r.bright) (eighths r.dark) r.spread v (verdict r.number r.ratio) is p)
@@ -98,8 +98,8 @@ table =
     ∷ []
 
 pub worked : EveryRow Holds table
-unfolding holds every-row
-worked = get (every-row Holds holds table) tt
+unfolding holds every_row
+worked = get (every_row Holds holds table) tt
 
 -- ---- tiles: 1 to 32, row by row, as a picture 8 wide and 4 high, and as one 4 wide and 8 high
 abbrev pub values : List ℕ
@@ -107,15 +107,15 @@ values =
     1 ∷ 2 ∷ 3 ∷ 4 ∷ 5 ∷ 6 ∷ 7 ∷ 8 ∷ 9 ∷ 10 ∷ 11 ∷ 12 ∷ 13 ∷ 14 ∷ 15 ∷ 16 ∷
     17 ∷ 18 ∷ 19 ∷ 20 ∷ 21 ∷ 22 ∷ 23 ∷ 24 ∷ 25 ∷ 26 ∷ 27 ∷ 28 ∷ 29 ∷ 30 ∷ 31 ∷ 32 ∷ []
 
-pub tiles : (overTiles maximum 8 4 values ≡ 272) × (overTiles minimum 8 4 values ≡ 256)
-    × (overTiles maximum 4 8 values ≡ 296) × (overTiles minimum 4 8 values ≡ 232)
-unfolding joined sum maximum minimum tile overTiles
+pub tiles : (over_tiles maximum 8 4 values ≡ 272) × (over_tiles minimum 8 4 values ≡ 256)
+    × (over_tiles maximum 4 8 values ≡ 296) × (over_tiles minimum 4 8 values ≡ 232)
+unfolding joined sum maximum minimum tile over_tiles
 tiles = (refl, refl, refl, refl)
 
 -- ---- the places that count, of a picture 9 wide and 8 high, and of one 8 wide and 9 high
-abbrev pub placesThatCount : ℕ → ℕ → List ℕ
-placesThatCount w h = joined (w * h) (λ k. cond (counts w h k) (k ∷ []) [])
+abbrev pub places_that_count : ℕ → ℕ → List ℕ
+places_that_count w h = joined (w * h) (λ k. cond (counts w h k) (k ∷ []) [])
 
-pub counting : (placesThatCount 9 8 ≡ 30 ∷ 31 ∷ 32 ∷ 39 ∷ 40 ∷ 41 ∷ []) × (placesThatCount 8 9 ≡ 27 ∷ 28 ∷ 35 ∷ 36 ∷ 43 ∷ 44 ∷ [])
+pub counting : (places_that_count 9 8 ≡ 30 ∷ 31 ∷ 32 ∷ 39 ∷ 40 ∷ 41 ∷ []) × (places_that_count 8 9 ≡ 27 ∷ 28 ∷ 35 ∷ 36 ∷ 43 ∷ 44 ∷ [])
 unfolding joined
 counting = (refl, refl)

@@ -7,11 +7,11 @@ use native.Mathlib.Nat.{mul-le-mul, mul_comm, mul-zero, mul-one, mul-add-div_rig
 use native.Mathlib.Omega.{arith}
 use borrow.Author.Tests.{ltb-false, leb-false, lt-ltb, le-ltb, le-leb, lt-leb, not-true}
 use lib.Dec.{leb, ltb}
-use Rattle.arithmetic.specs.Sums.{sum, sumOver}
-use Rattle.arithmetic.proofs.Order.{le-or-lt}
-use Rattle.arithmetic.proofs.Sums.{sum-none, sum_same, sum-equal, sum-parts, sum-by-rows}
-use Rattle.judge.specs.Noise.{outermost, counts, innerPixels}
-use Rattle.judge.specs.inside.Asked.{innerPlace, Measurable}
+use Rattle.arithmetic.specs.Sums.{sum, sum_over}
+use Rattle.arithmetic.proofs.Order.{le_or_lt}
+use Rattle.arithmetic.proofs.Sums.{sum_none, sum_same, sum_equal, sum_parts, sum_by_rows}
+use Rattle.judge.specs.Noise.{outermost, counts, inner_pixels}
+use Rattle.judge.specs.inside.Asked.{inner_place, Measurable}
 use Rattle.judge.specs.AnnexA.{Exactly}
 
 -- where neither of two is so
@@ -23,16 +23,16 @@ neither false b e = (refl, e)
 first_three : (n k : ℕ) → k < 3 → outermost n k ≡ true
 first_three n k h = rw (lt-ltb k 3 h)
 
-last-three : (n k : ℕ) → n - 3 ≤ k → outermost n k ≡ true
-last-three n k h = rw (le-leb (n - 3) k h) (go (ltb k 3))
+last_three : (n k : ℕ) → n - 3 ≤ k → outermost n k ≡ true
+last_three n k h = rw (le-leb (n - 3) k h) (go (ltb k 3))
   where
     go : (b : Bool) → (b || true) ≡ true
     go true = refl
     go false = refl
 
 -- the first of them that is not left out is 3, and the last n − 4
-pub stays-exactly : (n k : ℕ) → Exactly (outermost n k ≡ false) ((3 ≤ k) × (k < n - 3))
-stays-exactly n k = (
+pub stays_exactly : (n k : ℕ) → Exactly (outermost n k ≡ false) ((3 ≤ k) × (k < n - 3))
+stays_exactly n k = (
   λ e. let both = neither (ltb k 3) (leb (n - 3) k) e in (ltb-false k 3 both.0, leb-false (n - 3) k both.1),
   λ p. rw (le-ltb k 3 p.0, lt-leb (n - 3) k p.1),
 )
@@ -56,18 +56,18 @@ module _ (w h i j : ℕ) (column : i < w) where
       to : counts w h (j * w + i) ≡ true → ((3 ≤ i) × (i < w - 3)) × ((3 ≤ j) × (j < h - 3))
       to e =
           let both = neither (outermost h j) (outermost w i) (not-true (outermost h j || outermost w i) (sym counts-at ∙ e)) in
-          ((stays-exactly w i).0 both.1, (stays-exactly h j).0 both.0)
+          ((stays_exactly w i).0 both.1, (stays_exactly h j).0 both.0)
 
       of : ((3 ≤ i) × (i < w - 3)) × ((3 ≤ j) × (j < h - 3)) → counts w h (j * w + i) ≡ true
-      of p = rw (counts-at, (stays-exactly h j).1 p.1, (stays-exactly w i).1 p.0)
+      of p = rw (counts-at, (stays_exactly h j).1 p.1, (stays_exactly w i).1 p.0)
 
 -- the pixel in column i and row j of those that count stands three columns and three rows on
-pub place_is : (w i j : ℕ) → i < w - 6 → innerPlace w (j * (w - 6) + i) ≡ (j + 3) * w + (i + 3)
+pub place_is : (w i j : ℕ) → i < w - 6 → inner_place w (j * (w - 6) + i) ≡ (j + 3) * w + (i + 3)
 place_is w i j column = rw (row_is (w - 6) i j column, column-is (w - 6) i j column)
 
 -- a sum over n numbers without the outermost
-sum-within : (n : ℕ) (f : ℕ → ℕ) → sum n (λ k. cond (outermost n k) 0 (f k)) ≡ sum (n - 6) (λ k. f (k + 3))
-sum-within n f = ⊎_elim few many (le-or-lt n 6)
+sum_within : (n : ℕ) (f : ℕ → ℕ) → sum n (λ k. cond (outermost n k) 0 (f k)) ≡ sum (n - 6) (λ k. f (k + 3))
+sum_within n f = ⊎_elim few many (le_or_lt n 6)
   where
     kept : ℕ → ℕ
     kept k = cond (outermost n k) 0 (f k)
@@ -76,26 +76,26 @@ sum-within n f = ⊎_elim few many (le-or-lt n 6)
     nothing k e = rw e
 
     stays : (k : ℕ) → k < n - 6 → kept (3 + k) ≡ f (k + 3)
-    stays k l = let e : 3 + k ≡ k + 3 = omega arith in rw ((stays-exactly n (3 + k)).1 (omega arith, omega arith), e)
+    stays k l = let e : 3 + k ≡ k + 3 = omega arith in rw ((stays_exactly n (3 + k)).1 (omega arith, omega arith), e)
 
     -- of six all are left out
     few : n ≤ 6 → sum n kept ≡ sum (n - 6) (λ k. f (k + 3))
     few h =
         let none : n - 6 ≡ 0 = omega arith in
-        let last : (k : ℕ) → 3 ≤ k → outermost n k ≡ true = λ k g. last-three n k (omega arith) in
-        let out : (k : ℕ) → k < n → kept k ≡ 0 = λ k l. nothing k (⊎_elim (last k) (first_three n k) (le-or-lt 3 k)) in
-        rw (none, sum-none (λ k. f (k + 3))) (sum-equal 0 n kept out ∙ mul-zero n)
+        let last : (k : ℕ) → 3 ≤ k → outermost n k ≡ true = λ k g. last_three n k (omega arith) in
+        let out : (k : ℕ) → k < n → kept k ≡ 0 = λ k l. nothing k (⊎_elim (last k) (first_three n k) (le_or_lt 3 k)) in
+        rw (none, sum_none (λ k. f (k + 3))) (sum_equal 0 n kept out ∙ mul-zero n)
 
     -- of more, three at either end
     many : 6 < n → sum n kept ≡ sum (n - 6) (λ k. f (k + 3))
     many h =
         let m = n - 6 in
         let all : n ≡ 3 + (m + 3) = omega arith in
-        let first = sum-equal 0 3 kept (λ k l. nothing k (first_three n k l)) in
-        let last = sum-equal 0 3 (λ k. kept (3 + (m + k))) (λ k l. nothing (3 + (m + k)) (last-three n (3 + (m + k)) (omega arith))) in
+        let first = sum_equal 0 3 kept (λ k l. nothing k (first_three n k l)) in
+        let last = sum_equal 0 3 (λ k. kept (3 + (m + k))) (λ k l. nothing (3 + (m + k)) (last_three n (3 + (m + k)) (omega arith))) in
         let middle = sum_same m (λ k. kept (3 + k)) (λ k. f (k + 3)) stays in
-        let cut = ap (λ (a : ℕ). sum a kept) all ∙ sum-parts 3 (m + 3) kept in
-        omega (arith, cut, sum-parts m 3 (λ k. kept (3 + k)), first, middle, last)
+        let cut = ap (λ (a : ℕ). sum a kept) all ∙ sum_parts 3 (m + 3) kept in
+        omega (arith, cut, sum_parts m 3 (λ k. kept (3 + k)), first, middle, last)
 
 -- a sum over the pixels that count
 module _ (w h : ℕ) (f : ℕ → ℕ) where
@@ -114,41 +114,41 @@ module _ (w h : ℕ) (f : ℕ → ℕ) where
 
       whole : (b : Bool)
           → sum w (λ i. cond b 0 (cond (outermost w i) 0 (f (j * w + i)))) ≡ cond b 0 (sum (w - 6) (λ i. f (j * w + (i + 3))))
-      whole true = sum-equal 0 w (λ i. 0) (λ i l. refl) ∙ mul-zero w
-      whole false = sum-within w (λ i. f (j * w + i))
+      whole true = sum_equal 0 w (λ i. 0) (λ i l. refl) ∙ mul-zero w
+      whole false = sum_within w (λ i. f (j * w + i))
 
   -- it is h − 6 rows of w − 6, from row 3 and column 3 on
-  pub by-rows-and-columns : sumOver (w * h) (counts w h) f ≡ sum (h - 6) (λ j. sum (w - 6) (λ i. f ((j + 3) * w + (i + 3))))
-  unfolding sumOver
+  pub by-rows-and-columns : sum_over (w * h) (counts w h) f ≡ sum (h - 6) (λ j. sum (w - 6) (λ i. f ((j + 3) * w + (i + 3))))
+  unfolding sum_over
   by-rows-and-columns =
       let kept : ℕ → ℕ = λ k. cond (counts w h k) (f k) 0 in
       ap (λ (n : ℕ). sum n kept) (mul_comm w h)
-      ∙ sum-by-rows h w kept
+      ∙ sum_by_rows h w kept
       ∙ sum_same h _ (λ j. cond (outermost h j) 0 (sum (w - 6) (λ i. f (j * w + (i + 3))))) (λ j l. row_within j)
-      ∙ sum-within h (λ j. sum (w - 6) (λ i. f (j * w + (i + 3))))
+      ∙ sum_within h (λ j. sum (w - 6) (λ i. f (j * w + (i + 3))))
 
   -- and so a sum of N numbers
-  pub over-inner : sumOver (w * h) (counts w h) f ≡ sum (innerPixels w h) (λ k. f (innerPlace w k))
+  pub over-inner : sum_over (w * h) (counts w h) f ≡ sum (inner_pixels w h) (λ k. f (inner_place w k))
   over-inner =
       by-rows-and-columns
-      ∙ sum_same (h - 6) _ (λ j. sum (w - 6) (λ i. f (innerPlace w (j * (w - 6) + i))))
+      ∙ sum_same (h - 6) _ (λ j. sum (w - 6) (λ i. f (inner_place w (j * (w - 6) + i))))
       (λ j l. sum_same (w - 6) _ _ (λ i g. ap f (sym (place_is w i j g))))
-      ∙ sym (sum-by-rows (h - 6) (w - 6) (λ k. f (innerPlace w k)))
-      ∙ ap (λ (n : ℕ). sum n (λ k. f (innerPlace w k))) (mul_comm (h - 6) (w - 6))
+      ∙ sym (sum_by_rows (h - 6) (w - 6) (λ k. f (inner_place w k)))
+      ∙ ap (λ (n : ℕ). sum n (λ k. f (inner_place w k))) (mul_comm (h - 6) (w - 6))
 
 -- there are N of them
-pub as_many : (w h : ℕ) → sumOver (w * h) (counts w h) (λ k. 1) ≡ innerPixels w h
-as_many w h = over-inner w h (λ k. 1) ∙ sum-equal 1 (innerPixels w h) (λ k. 1) (λ k l. refl) ∙ mul-one (innerPixels w h)
+pub as_many : (w h : ℕ) → sum_over (w * h) (counts w h) (λ k. 1) ≡ inner_pixels w h
+as_many w h = over-inner w h (λ k. 1) ∙ sum_equal 1 (inner_pixels w h) (λ k. 1) (λ k l. refl) ∙ mul-one (inner_pixels w h)
 
 -- a picture that can be measured has some, and no more than a picture has pixels
 module _ {w h : ℕ} (size : Measurable w h) where
-  pub some-inner : 1 ≤ innerPixels w h
+  pub some-inner : 1 ≤ inner_pixels w h
   some-inner =
       let columns : 1 ≤ w - 6 = omega (arith, size.measurable) in
       let rows : 1 ≤ h - 6 = omega (arith, size.measurable) in
       omega (arith, mul-le-mul columns rows)
 
-  pub few-inner : innerPixels w h ≤ 1048576
+  pub few-inner : inner_pixels w h ≤ 1048576
   few-inner =
       let columns : w - 6 ≤ 1024 = omega (arith, size.sides) in
       let rows : h - 6 ≤ 1024 = omega (arith, size.sides) in

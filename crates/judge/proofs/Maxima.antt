@@ -28,55 +28,55 @@ least_first a [] = omega arith
 least_first a (x ∷ l) = omega (arith, least_first (min a x) l)
 
 -- both, of a list and a part behind it
-pub gathered-more : {l row : List ℕ} {most least m n most' least' : ℕ} → Gathered l most least → Gathered row m n
+pub gathered_more : {l row : List ℕ} {most least m n most' least' : ℕ} → Gathered l most least → Gathered row m n
     → most' ≡ max most m → least' ≡ min least n → Gathered (l ++ row) most' least'
-gathered-more {l} {row} so_far more is-most is-least =
+gathered_more {l} {row} so_far more is-most is-least =
     record {
-      most-is = rw (is-most, so_far.most-is, more.most-is) (put-behind max (λ a b c. omega arith) 0 l row (omega arith));
-      least-is =
-          rw (is-least, so_far.least-is, more.least-is)
+      most_is = rw (is-most, so_far.most_is, more.most_is) (put-behind max (λ a b c. omega arith) 0 l row (omega arith));
+      least_is =
+          rw (is-least, so_far.least_is, more.least_is)
           (put-behind min (λ a b c. omega arith) 65535 l row (omega (arith, least_first 65535 l)));
     }
 
 -- of one value
-gathered-one : {v : ℕ} → v ≤ 65535 → Gathered (v ∷ []) v v
-gathered-one small = record { most-is = omega arith; least-is = omega arith }
+gathered_one : {v : ℕ} → v ≤ 65535 → Gathered (v ∷ []) v v
+gathered_one small = record { most_is = omega arith; least_is = omega arith }
 
 -- what the loop over a row's values knows after i of them
 pub record Values (row : List ℕ) (most least i : ℕ) : Type 0 where
   pub few : i ≤ length row
   pub so_far : Gathered (take i row) most least
 
-pub values-none : (row : List ℕ) → Values row 0 65535 0
-values-none row = record { few = omega arith; so_far = record { most-is = refl; least-is = refl } }
+pub values_none : (row : List ℕ) → Values row 0 65535 0
+values_none row = record { few = omega arith; so_far = record { most_is = refl; least_is = refl } }
 
-pub values-more : {row : List ℕ} {most least i most' least' : ℕ} → Values row most least i → i < length row → get_or row i 0 ≤ 65535
+pub values_more : {row : List ℕ} {most least i most' least' : ℕ} → Values row most least i → i < length row → get_or row i 0 ≤ 65535
     → most' ≡ max most (get_or row i 0) → least' ≡ min least (get_or row i 0) → Values row most' least' (i + 1)
-values-more {row} {i = i} s here small is-most is-least =
+values_more {row} {i = i} s here small is-most is-least =
     record {
       few = omega arith;
-      so_far = rw (add-one, take-suc row i 0) (gathered-more s.so_far (gathered-one small) is-most is-least);
+      so_far = rw (add-one, take-suc row i 0) (gathered_more s.so_far (gathered_one small) is-most is-least);
     }
 
-pub values-all : {row : List ℕ} {most least i : ℕ} → Values row most least i → length row ≤ i → Gathered row most least
-values-all {row} {i = i} s all = rw (take_all i row all) at s.so_far
+pub values_all : {row : List ℕ} {most least i : ℕ} → Values row most least i → length row ≤ i → Gathered row most least
+values_all {row} {i = i} s all = rw (take_all i row all) at s.so_far
 
 -- from 0 up it is the maximum that is gathered
-maximum-is : (l : List ℕ) → foldl max 0 l ≡ maximum l
+maximum_is : (l : List ℕ) → foldl max 0 l ≡ maximum l
 unfolding maximum
-maximum-is [] = refl
-maximum-is (x ∷ l) = let e : max 0 x ≡ x = omega arith in rw e
+maximum_is [] = refl
+maximum_is (x ∷ l) = let e : max 0 x ≡ x = omega arith in rw e
 
 -- from a number that none exceeds it is the minimum, where there are any
-minimum-is : (b : ℕ) (l : List ℕ) → 0 < length l → AtMost b l → foldl min b l ≡ minimum l
+minimum_is : (b : ℕ) (l : List ℕ) → 0 < length l → AtMost b l → foldl min b l ≡ minimum l
 unfolding minimum
-minimum-is b [] p q = absurd (let no : ⊥ = omega arith in no)
-minimum-is b (x ∷ l) p q = let e : min b x ≡ x = omega (arith, q 0) in rw e
+minimum_is b [] p q = absurd (let no : ⊥ = omega arith in no)
+minimum_is b (x ∷ l) p q = let e : min b x ≡ x = omega (arith, q 0) in rw e
 
 -- so both are those of a list that has elements
-pub gathered-ends : {l : List ℕ} {most least : ℕ} → 0 < length l → AtMost 65535 l → Gathered l most least → EndsOf l most least
-gathered-ends {l} some small g =
-    record { most-is = g.most-is ∙ maximum-is l; least-is = g.least-is ∙ minimum-is 65535 l some small }
+pub gathered_ends : {l : List ℕ} {most least : ℕ} → 0 < length l → AtMost 65535 l → Gathered l most least → EndsOf l most least
+gathered_ends {l} some small g =
+    record { most_is = g.most_is ∙ maximum_is l; least_is = g.least_is ∙ minimum_is 65535 l some small }
 
 -- where every element is at most b, so are both
 module _ (b : ℕ) (f : ℕ → ℕ → ℕ) (keeps : (a x : ℕ) → a ≤ b → x ≤ b → f a x ≤ b) where
@@ -84,12 +84,12 @@ module _ (b : ℕ) (f : ℕ → ℕ → ℕ) (keeps : (a x : ℕ) → a ≤ b �
   gathered-most a [] p q = p
   gathered-most a (x ∷ l) p q = gathered-most (f a x) l (keeps a x p (q 0)) (λ k. q (suc k))
 
-pub maximum-most : (b : ℕ) (l : List ℕ) → AtMost b l → maximum l ≤ b
+pub maximum_most : (b : ℕ) (l : List ℕ) → AtMost b l → maximum l ≤ b
 unfolding maximum
-maximum-most b [] q = omega arith
-maximum-most b (x ∷ l) q = gathered-most b max (λ a y p r. omega arith) x l (q 0) (λ k. q (suc k))
+maximum_most b [] q = omega arith
+maximum_most b (x ∷ l) q = gathered-most b max (λ a y p r. omega arith) x l (q 0) (λ k. q (suc k))
 
-pub minimum-most : (b : ℕ) (l : List ℕ) → AtMost b l → minimum l ≤ b
+pub minimum_most : (b : ℕ) (l : List ℕ) → AtMost b l → minimum l ≤ b
 unfolding minimum
-minimum-most b [] q = omega arith
-minimum-most b (x ∷ l) q = gathered-most b min (λ a y p r. omega arith) x l (q 0) (λ k. q (suc k))
+minimum_most b [] q = omega arith
+minimum_most b (x ∷ l) q = gathered-most b min (λ a y p r. omega arith) x l (q 0) (λ k. q (suc k))

@@ -6,8 +6,8 @@ use lib.ListN.{length, take, drop}
 use lib.Seq.{take_at}
 use Rattle.answers.specs.Refusals.{Unless}
 use Rattle.answers.proofs.Refusals.{stops, goes_on, carried}
-use Rattle.filter.specs.Filter.{passThree, Sized, outcome, Filtered, FilterIs}
-use Rattle.picture.proofs.Shapes.{passes-both}
+use Rattle.filter.specs.Filter.{pass_three, Sized, outcome, Filtered, FilterIs}
+use Rattle.picture.proofs.Shapes.{passes_both}
 use Rattle.filter.proofs.Outcomes.{Fits, when-fits}
 use Rattle.judge.specs.declared.Verdict.{Verdict}
 use Rattle.judge.specs.Judge.{refused}
@@ -32,7 +32,7 @@ module _ (levels : List ℕ) (w h : ℕ) (output work : List ℕ) where
     fitting : (r : Measurement)
         → Unless (MeasurableSide w × MeasurableSide h) (r ≡ measurement (refused 5) output work) (Measured levels w h output work r)
         → MeasureIs levels w h output work r
-    fitting r rest = passes-both f.shape (goes_on f.long-output (goes_on f.long-work rest))
+    fitting r rest = passes_both f.shape (goes_on f.long_output (goes_on f.long_work rest))
 
     -- a side that cannot be measured
     pub refused-by-five : {v : Verdict} → ¬ (MeasurableSide w × MeasurableSide h) → v ≡ refused 5
@@ -51,8 +51,8 @@ module _ {levels : List ℕ} {w h : ℕ} {output work : List ℕ} {n : ℕ} {out
   filtered : Filtered levels w h output work (outcome n output' work')
   filtered = when-fits levels w h output work (outcome n output' work') r.fits r.promise
 
-  starts : take (w * h) output' ≡ passThree w h levels
-  starts = ap (take (w * h)) filtered.pass-three ∙ take_at (passThree w h levels) (drop (w * h) output) (w * h) filtered.long
+  starts : take (w * h) output' ≡ pass_three w h levels
+  starts = ap (take (w * h)) filtered.is_pass_three ∙ take_at (pass_three w h levels) (drop (w * h) output) (w * h) filtered.long
 
   pub pictured : Pictured w h levels (take (w * h) output')
   pictured =
@@ -64,7 +64,7 @@ module _ {levels : List ℕ} {w h : ℕ} {output work : List ℕ} {n : ℕ} {out
               whole = filtered.long;
               small = filtered.most;
             };
-        all-levels = r.fits.shape.all-levels;
+        all_levels = r.fits.shape.all_levels;
       })
 
   pub done : {v : Verdict} → Judged levels (take (w * h) output') w h v → MeasureIs levels w h output work (measurement v output' work')

@@ -8,13 +8,13 @@ use lib.ListN.{length}
 use Rattle.arithmetic.specs.Signed.{nat_of}
 use Rattle.answers.proofs.Refusals.{past, alike, together}
 use Rattle.units.specs.declared.Eighths.{Eighths}
-use Rattle.filter.specs.Filter.{passThree}
+use Rattle.filter.specs.Filter.{pass_three}
 use Rattle.filter.proofs.Outcomes.{Fits}
 use Rattle.judge.specs.declared.Verdict.{Verdict}
 use Rattle.judge.specs.Extremes.{bright, dark}
-use Rattle.judge.specs.Noise.{innerPixels}
+use Rattle.judge.specs.Noise.{inner_pixels}
 use Rattle.judge.specs.Judge.{InRange, BrightInRange, DarkInRange, Rated, verdict, refused, JudgeIs}
-use Rattle.judge.proofs.Ratios.{one-ratio}
+use Rattle.judge.proofs.Ratios.{one_ratio}
 use Rattle.judge.specs.Measure.{MeasurableSide, Judged, Measurement, measurement, Measured, MeasureIs}
 
 -- two verdicts past all tests have one ratio, and so one number
@@ -23,7 +23,7 @@ module _ (N : ℕ) (M m : Eighths) (D : ℕ) (v v' : Verdict) where
   one-rated a b = λ i. verdict (number i) (ratio i)
     where
       ratio : v.ratio ≡ v'.ratio
-      ratio = one-ratio N (M.0 - m.0) D v.ratio v'.ratio a.ratio b.ratio
+      ratio = one_ratio N (M.0 - m.0) D v.ratio v'.ratio a.ratio b.ratio
 
       number : v.number ≡ v'.number
       number = together alike alike a.number (rw (← ratio) at b.number)
@@ -33,21 +33,21 @@ module _ (N : ℕ) (M m : Eighths) (D : ℕ) (v v' : Verdict) where
   one-judge = together alike (together alike (together alike (together alike one-rated)))
 
 -- "8 | D = 0", where the extremes pass
-pub without-noise : (N : ℕ) (M m : Eighths) (v : Verdict) → InRange N M m 0 → BrightInRange M → DarkInRange m → JudgeIs N M m 0 v
+pub without_noise : (N : ℕ) (M m : Eighths) (v : Verdict) → InRange N M m 0 → BrightInRange M → DarkInRange m → JudgeIs N M m 0 v
     → v ≡ refused 8
-without-noise N M m v taken bright-in dark-in j = elim (past dark-in (past bright-in (past taken j))) [
+without_noise N M m v taken bright_in dark_in j = elim (past dark_in (past bright_in (past taken j))) [
   | inl eight ↦ eight.1
   | inr some ↦ absurd (some.0 refl)
 ]
 
 -- any two verdicts on one filtered picture are equal
-pub one-judged : (levels filtered : List ℕ) (w h : ℕ) (v v' : Verdict)
+pub one_judged : (levels filtered : List ℕ) (w h : ℕ) (v v' : Verdict)
     → Judged levels filtered w h v → Judged levels filtered w h v' → v ≡ v'
-one-judged levels filtered w h v v' a b =
-    one-judge (innerPixels w h) (bright w h filtered) (dark w h filtered) b.spread v v' (rw spread at a.verdict-is) b.verdict-is
+one_judged levels filtered w h v v' a b =
+    one-judge (inner_pixels w h) (bright w h filtered) (dark w h filtered) b.spread v v' (rw spread at a.verdict_is) b.verdict_is
   where
     spread : a.spread ≡ b.spread
-    spread = ap nat_of (alike a.spread-is b.spread-is)
+    spread = ap nat_of (alike a.spread_is b.spread_is)
 
 -- any two outcomes that the promise of measuring permits are equal
 module _ (levels : List ℕ) (w h : ℕ) (output work : List ℕ) (a b : Measurement) where
@@ -55,20 +55,20 @@ module _ (levels : List ℕ) (w h : ℕ) (output work : List ℕ) (a b : Measure
   one-measured p q = λ i. measurement (v i) (o i) (k i)
     where
       v : a.verdict ≡ b.verdict
-      v = one-judged levels (passThree w h levels) w h a.verdict b.verdict p.judged q.judged
+      v = one_judged levels (pass_three w h levels) w h a.verdict b.verdict p.judged q.judged
 
       o : a.output ≡ b.output
-      o = alike p.filtered.pass-three q.filtered.pass-three
+      o = alike p.filtered.is_pass_three q.filtered.is_pass_three
 
       k : a.work ≡ b.work
-      k = alike p.filtered.pass-two q.filtered.pass-two
+      k = alike p.filtered.is_pass_two q.filtered.is_pass_two
 
   pub one-measure : MeasureIs levels w h output work a → MeasureIs levels w h output work b → a ≡ b
   one-measure = together alike (together alike (together alike (together alike (together alike one-measured))))
 
 -- past the sizes, with sides that can be measured
-pub when-measured : (levels : List ℕ) (w h : ℕ) (output work : List ℕ) (r : Measurement)
+pub when_measured : (levels : List ℕ) (w h : ℕ) (output work : List ℕ) (r : Measurement)
     → Fits (length levels) w h (length output) (length work) → MeasurableSide w × MeasurableSide h
     → MeasureIs levels w h output work r → Measured levels w h output work r
-when-measured levels w h output work r f sides is =
-    past sides (past f.long-work (past f.long-output (past f.shape.all-levels (past f.shape.sides is))))
+when_measured levels w h output work r f sides is =
+    past sides (past f.long_work (past f.long_output (past f.shape.all_levels (past f.shape.sides is))))

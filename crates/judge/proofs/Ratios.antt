@@ -11,11 +11,11 @@ use lib.Dec.{leb, lit<, lit≤}
 use borrow.Author.Tests.{leb-true, leb-false}
 use Rattle.arithmetic.specs.Greatest.{Greatest}
 use Rattle.arithmetic.specs.inside.Halving.{Between}
-use Rattle.arithmetic.proofs.Order.{le-or-lt, of-squares}
-use Rattle.arithmetic.proofs.Greatest.{Falling, one-greatest, reworded}
+use Rattle.arithmetic.proofs.Order.{le_or_lt, of_squares}
+use Rattle.arithmetic.proofs.Greatest.{Falling, one_greatest, reworded}
 use Rattle.judge.specs.Judge.{Reaches, RatioIs}
 use Rattle.judge.specs.inside.Wide.{value, Room, Noisy, Rateable, BelowRoot, Compared, Comparable}
-use Rattle.judge.proofs.Digits.{product-room}
+use Rattle.judge.proofs.Digits.{product_room}
 
 -- ---- comparing the two sides: the left one times q + 138, once and twice, has room in ten digits
 module _ {left : List ℕ} {q : ℕ} (p : Comparable left q) where
@@ -23,35 +23,35 @@ module _ {left : List ℕ} {q : ℕ} (p : Comparable left q) where
   small = omega (arith, p.number)
 
   pub once-room : Room left (q + 138) 0
-  once-room = product-room p.side small (lit≤ tt) (lit< tt)
+  once-room = product_room p.side small (lit≤ tt) (lit< tt)
 
   pub twice-room : {once : List ℕ} → value once 10 ≡ value left 10 * (q + 138) → Room once (q + 138) 0
   twice-room {once} e =
       let most : value once 10 ≤ 2 ^ 70 * 2 ^ 43 = rw e (mul-le-mul p.side small) in
-      product-room most small (lit≤ tt) (lit< tt)
+      product_room most small (lit≤ tt) (lit< tt)
 
 -- a number times x twice is that number times the square of x
-pub twice-is-square : (v x : ℕ) {once twice : ℕ} → once ≡ v * x → twice ≡ once * x → twice ≡ x * x * v
-twice-is-square v x e f = rw (f, e) (omega arith)
+pub twice_is_square : (v x : ℕ) {once twice : ℕ} → once ≡ v * x → twice ≡ once * x → twice ≡ x * x * v
+twice_is_square v x e f = rw (f, e) (omega arith)
 
 -- what the answer of a comparison says
-pub answered-yes : (m n : ℕ) {r : Bool} → r ≡ leb m n → r ≡ true → m ≤ n
-answered-yes m n e h = leb-true m n (sym e ∙ h)
+pub answered_yes : (m n : ℕ) {r : Bool} → r ≡ leb m n → r ≡ true → m ≤ n
+answered_yes m n e h = leb-true m n (sym e ∙ h)
 
-pub answered-no : (m n : ℕ) {r : Bool} → r ≡ leb m n → r ≡ false → ¬ (m ≤ n)
-answered-no m n e h = not-le_of_lt (leb-false m n (sym e ∙ h))
+pub answered_no : (m n : ℕ) {r : Bool} → r ≡ leb m n → r ≡ false → ¬ (m ≤ n)
+answered_no m n e h = not-le_of_lt (leb-false m n (sym e ∙ h))
 
 -- ---- a power of two below the root
 -- `rest` is d divided by 4, rounded down, as often as the power was doubled
 pub record Quartered (d power rest : ℕ) : Type 0 where
-  pub power-some : 1 ≤ power
+  pub power_some : 1 ≤ power
   pub rest_some : 1 ≤ rest
   pub low : power * power * rest ≤ d
   pub high : d < power * power * (rest + 1)
 
 -- before the first turn
-pub quartered-none : {d : ℕ} → Noisy d → Quartered d 1 d
-quartered-none noise = record { power-some = omega arith; rest_some = noise.some; low = omega arith; high = omega arith }
+pub quartered_none : {d : ℕ} → Noisy d → Quartered d 1 d
+quartered_none noise = record { power_some = omega arith; rest_some = noise.some; low = omega arith; high = omega arith }
 
 module _ {d power rest : ℕ} (q : Quartered d power rest) where
   -- one turn more
@@ -61,7 +61,7 @@ module _ {d power rest : ℕ} (q : Quartered d power rest) where
       let down : 4 * (rest / 4) ≤ rest = omega arith in
       let up : rest + 1 ≤ 4 * (rest / 4 + 1) = omega arith in
       record {
-        power-some = omega (arith, q.power-some);
+        power_some = omega (arith, q.power_some);
         rest_some = omega arith;
         low = omega (arith, mul-le-mul_left square down, q.low);
         high = omega (arith, mul-le-mul_left square up, q.high);
@@ -73,13 +73,13 @@ module _ {d power rest : ℕ} (q : Quartered d power rest) where
 
   -- so the power has at most half the bits
   pub power-most : Noisy d → power ≤ 2 ^ 31
-  power-most noise = of-squares (le_trans square-most noise.most)
+  power-most noise = of_squares (le_trans square-most noise.most)
 
   -- after the last turn the power is the one below the root
   pub quartered-last : Noisy d → rest ≤ 3 → BelowRoot d power
   quartered-last noise last =
       record {
-        some = q.power-some;
+        some = q.power_some;
         most = power-most noise;
         low = square-most;
         high = omega (arith, mul-le-mul_left (power * power) last, q.high);
@@ -87,8 +87,8 @@ module _ {d power rest : ℕ} (q : Quartered d power rest) where
 
 -- ---- the condition
 -- what holds of a number, holds of each smaller one
-pub compared-falls : (left right : ℕ) → Falling (Compared left right)
-compared-falls left right j k le h =
+pub compared_falls : (left right : ℕ) → Falling (Compared left right)
+compared_falls left right j k le h =
     let more : j + 138 ≤ k + 138 = omega arith in
     le_trans (mul-le-mul_right left (mul-le-mul more more)) h
 
@@ -97,16 +97,16 @@ abbrev pub product : ℕ → ℕ → ℕ
 product N span = 100 * span * N
 
 -- how large it is
-pub product-most : {N span D : ℕ} → Rateable N span D → product N span ≤ 3422552064000
-product-most p = mul-le-mul (mul-le-mul_left 100 p.span-most) p.count_most
+pub product_most : {N span D : ℕ} → Rateable N span D → product N span ≤ 3422552064000
+product_most p = mul-le-mul (mul-le-mul_left 100 p.span_most) p.count_most
 
 -- how large the end of the halving's interval is, a quotient of the product less 137
-pub end-most : {n : ℕ} (d : ℕ) → n ≤ 3422552064000 → n / d - 137 ≤ 2 ^ 42
-end-most {n} d h = omega (arith, div-le_self n d)
+pub end_most : {n : ℕ} (d : ℕ) → n ≤ 3422552064000 → n / d - 137 ≤ 2 ^ 42
+end_most {n} d h = omega (arith, div-le_self n d)
 
 -- the product's square is the right side of the document
-product-squared : (N span : ℕ) → product N span * product N span ≡ 10000 * (span * span) * (N * N)
-product-squared N span = omega arith
+product_squared : (N span : ℕ) → product N span * product N span ≡ 10000 * (span * span) * (N * N)
+product_squared N span = omega arith
 
 -- the two sides as the code has them: 256·D, and the product's square
 pub record Sides (N span D left right : ℕ) : Type 0 where
@@ -123,7 +123,7 @@ module _ {N span D left right : ℕ} (sides : Sides N span D left right) where
   document-left n = rw sides.left_is (omega arith)
 
   document-right : right ≡ 10000 * (span * span) * (N * N)
-  document-right = sides.right_is ∙ product-squared N span
+  document-right = sides.right_is ∙ product_squared N span
 
   -- so comparing them says the same
   to-document : (q : ℕ) → Compared left right q → Reaches N span D q
@@ -140,7 +140,7 @@ module _ {N span D left right : ℕ} (sides : Sides N span D left right) where
         let x = k + 138 in
         let some : 0 < 16 * p = omega (arith, root.some) in
         (le-div_iff_mul-le some).1
-        (of-squares (omega (arith, mul-le-mul_left (x * x * 256) root.low, document-left (x * x), h, sides.right_is)))
+        (of_squares (omega (arith, mul-le-mul_left (x * x * 256) root.low, document-left (x * x), h, sides.right_is)))
 
     -- and a number that is, with 138, at most the product over 32·p reaches
     reaches-32nd : (k : ℕ) → k + 138 ≤ product N span / (32 * p) → Compared left right k
@@ -160,9 +160,9 @@ module _ {N span D left right : ℕ} (sides : Sides N span D left right) where
     starts {lo} e at-0 =
         record {
           low = ⊎_elim
-              (λ le. compared-falls left right lo 0 (omega (arith, le)) at-0)
+              (λ le. compared_falls left right lo 0 (omega (arith, le)) at-0)
               (λ lt. reaches-32nd lo (omega (arith, lt)))
-              (le-or-lt (product N span / (32 * p)) 138);
+              (le_or_lt (product N span / (32 * p)) 138);
           high = λ (k : ℕ) (h : Compared left right k). omega (arith, at-most-16th k h);
         }
 
@@ -172,20 +172,20 @@ module _ {N span D left right : ℕ} (sides : Sides N span D left right) where
 
   -- where 0 does not reach, there is none
   pub none_found : ¬ Compared left right 0 → RatioIs N span D 0
-  none_found past = inr ((λ (k : ℕ) h. past (compared-falls left right 0 k zero-le (of-document k h))), refl)
+  none_found past = inr ((λ (k : ℕ) h. past (compared_falls left right 0 k zero-le (of-document k h))), refl)
 
 -- ---- for every N, M − m and D
 -- where the ratio is q hundredths or more, it is so for each smaller q
-pub reaches-falls : (N span D : ℕ) → Falling (Reaches N span D)
-reaches-falls N span D j k le h =
-    to-document sides j (compared-falls (D * 256) (product N span * product N span) j k le (of-document sides k h))
+pub reaches_falls : (N span D : ℕ) → Falling (Reaches N span D)
+reaches_falls N span D j k le h =
+    to-document sides j (compared_falls (D * 256) (product N span * product N span) j k le (of-document sides k h))
   where
     sides : Sides N span D (D * 256) (product N span * product N span)
     sides = record { left_is = refl; right_is = refl }
 
 -- any two numbers that are the ratio are equal
-pub one-ratio : (N span D q k : ℕ) → RatioIs N span D q → RatioIs N span D k → q ≡ k
-one-ratio N span D q k (inl a) (inl b) = one-greatest a b
-one-ratio N span D q k (inl a) (inr b) = absurd (b.0 q a.holds)
-one-ratio N span D q k (inr a) (inl b) = absurd (a.0 k b.holds)
-one-ratio N span D q k (inr a) (inr b) = a.1 ∙ sym b.1
+pub one_ratio : (N span D q k : ℕ) → RatioIs N span D q → RatioIs N span D k → q ≡ k
+one_ratio N span D q k (inl a) (inl b) = one_greatest a b
+one_ratio N span D q k (inl a) (inr b) = absurd (b.0 q a.holds)
+one_ratio N span D q k (inr a) (inl b) = absurd (a.0 k b.holds)
+one_ratio N span D q k (inr a) (inr b) = a.1 ∙ sym b.1

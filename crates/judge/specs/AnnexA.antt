@@ -28,14 +28,14 @@ abbrev pub span : Eighths → Eighths → Fraction
 span M m = fraction (M.0 - m.0) 128
 
 -- "The noise deviation squared is D/(64·N²)."
-abbrev pub deviationSquared : ℕ → ℕ → Fraction
-deviationSquared N D = fraction D (64 * (N * N))
+abbrev pub deviation_squared : ℕ → ℕ → Fraction
+deviation_squared N D = fraction D (64 * (N * N))
 
 -- "Image contrast is (bright − dark) less 1.38 deviations; the ratio is contrast over deviation": that this ratio is r or more says
 -- bright − dark − 1.38·s ≥ r·s for the deviation s, so that (r + 1.38)·s ≤ bright − dark; and here both sides are squared, since s
 -- is a root.
 abbrev pub RatioFrom : ℕ → Eighths → Eighths → ℕ → Fraction → Type 0
-RatioFrom N M m D r = NotMore (times (squared (plus r (fraction 138 100))) (deviationSquared N D)) (squared (span M m))
+RatioFrom N M m D r = NotMore (times (squared (plus r (fraction 138 100))) (deviation_squared N D)) (squared (span M m))
 
 -- "must be 10 or more"
 abbrev pub RatioTen : ℕ → Eighths → Eighths → ℕ → Type 0

@@ -21,12 +21,12 @@ unfoldable pub tile : ℕ → ℕ → List ℕ → ℕ → ℕ → List ℕ
 tile w h filtered b a = joined (h / 4) (λ j. take (w / 4) (drop ((b * (h / 4) + j) * w + a * (w / 4)) filtered))
 
 -- the sum of what f makes of each of the sixteen tiles
-unfoldable pub overTiles : (List ℕ → ℕ) → ℕ → ℕ → List ℕ → ℕ
-overTiles f w h filtered = sum 4 (λ b. sum 4 (λ a. f (tile w h filtered b a)))
+unfoldable pub over_tiles : (List ℕ → ℕ) → ℕ → ℕ → List ℕ → ℕ
+over_tiles f w h filtered = sum 4 (λ b. sum 4 (λ a. f (tile w h filtered b a)))
 
 -- "M is the sum of the sixteen tile maxima, m that of the tile minima, both in eighths."
 abbrev pub bright : ℕ → ℕ → List ℕ → Eighths
-bright w h filtered = eighths (overTiles maximum w h filtered)
+bright w h filtered = eighths (over_tiles maximum w h filtered)
 
 abbrev pub dark : ℕ → ℕ → List ℕ → Eighths
-dark w h filtered = eighths (overTiles minimum w h filtered)
+dark w h filtered = eighths (over_tiles minimum w h filtered)

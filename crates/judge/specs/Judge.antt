@@ -8,10 +8,10 @@ use Rattle.judge.specs.declared.Verdict.{Verdict}
 -- "N 1 to 1,048,576; M, m at most 32,640; D at most 2^62"
 pub record InRange (N : ℕ) (M m : Eighths) (D : ℕ) : Type 0 where
   pub count_low : 1 ≤ N
-  pub count-high : N ≤ 1_048_576
-  pub bright-high : M.0 ≤ 32_640
-  pub dark-high : m.0 ≤ 32_640
-  pub spread-high : D ≤ 2 ^ 62
+  pub count_high : N ≤ 1_048_576
+  pub bright_high : M.0 ≤ 32_640
+  pub dark_high : m.0 ≤ 32_640
+  pub spread_high : D ≤ 2 ^ 62
 
 -- "21,760 ≤ M ≤ 31,360 and 1,280 ≤ m ≤ 10,240"
 abbrev pub BrightInRange : Eighths → Type 0

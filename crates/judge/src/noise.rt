@@ -3,7 +3,7 @@
 // level and the filtered value, so that its sum is a difference of two sums, and its square that of
 // how far the two are apart: whole numbers from 0 are enough.
 ghost use Rattle.std.specs.Prelude.{◌≡◌};
-ghost use Rattle.judge.specs.Noise.{innerPixels};
+ghost use Rattle.judge.specs.Noise.{inner_pixels};
 ghost use Rattle.judge.specs.inside.Asked.{Measurable, Pictured, SpreadIs, SamePixels, EightTimes, dist, RowSums};
 
 // The sums over some pixels: of d², of 8 times the levels, and of the filtered values.
@@ -17,7 +17,7 @@ struct ThreeSums {
 // N, the number of a picture's pixels that count: all but three rows and columns on each side.
 pub(crate) fn inner_pixels(width: usize, height: usize) -> u64
     requires { Measurable width height }
-    ensures { result ≡ innerPixels width height }
+    ensures { result ≡ inner_pixels width height }
 {
     ((width - 6) * (height - 6)) as u64
 }

@@ -8,13 +8,13 @@ use Prim.Native.Nat.{ℕ, ◌+◌, ◌*◌, ◌<◌, ◌≤◌}
 use native.Mathlib.Nat.{not-le_of_lt}
 use native.Mathlib.Decide.{dec_le, dec_lt, ℕ_discrete}
 use lib.IntN.{pos}
-use Rattle.arithmetic.proofs.Greatest.{by-neighbours}
-use Rattle.arithmetic.proofs.Computed.{when, EveryRow, every-row}
+use Rattle.arithmetic.proofs.Greatest.{by_neighbours}
+use Rattle.arithmetic.proofs.Computed.{when, EveryRow, every_row}
 use Rattle.units.specs.Units.{sixteenths, picometres}
 use Rattle.length.specs.declared.Sharpness.{Sharpness}
 use Rattle.length.specs.Length.{sharpness, LengthIs}
 use Rattle.length.proofs.Laws.{falling, Ranged, is-the-length}
-use Rattle.length.proofs.Outcomes.{one-length}
+use Rattle.length.proofs.Outcomes.{one_length}
 
 -- ---- a row of the table: a factor and a pixel size, and what comes back
 pub record Row : Type 0 where
@@ -39,15 +39,15 @@ module _ (f p n q : ℕ) where
       × ((n ≡ 0) × ((512 * (q * q) ≤ p * f * (p * f)) × (p * f * (p * f) < 512 * ((q + 1) * (q + 1)))))
 
   pub only : Tests → Holds (row f p n q)
-  only t s is = one-length (sixteenths (pos f)) (picometres p) s (sharpness n q) is permitted
+  only t s is = one_length (sixteenths (pos f)) (picometres p) s (sharpness n q) is permitted
     where
       ranged : Ranged f p
-      ranged = record { factor-low = t.0.0; factor-high = t.0.1.0; pixel-low = t.0.1.1.0; pixel-high = t.0.1.1.1 }
+      ranged = record { factor_low = t.0.0; factor_high = t.0.1.0; pixel_low = t.0.1.1.0; pixel_high = t.0.1.1.1 }
 
       permitted : LengthIs (sixteenths (pos f)) (picometres p) (sharpness n q)
       permitted =
           is-the-length (sixteenths (pos f)) (picometres p) ranged (sharpness n q) t.1.0
-          (by-neighbours (falling (p * f * (p * f))) t.1.1.0 (not-le_of_lt t.1.1.1))
+          (by_neighbours (falling (p * f * (p * f))) t.1.1.0 (not-le_of_lt t.1.1.1))
 
   tests : Dec Tests
   tests =
@@ -69,5 +69,5 @@ table =
     ∷ []
 
 pub worked : EveryRow Holds table
-unfolding holds every-row
-worked = get (every-row Holds holds table) tt
+unfolding holds every_row
+worked = get (every_row Holds holds table) tt

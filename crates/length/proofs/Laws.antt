@@ -7,9 +7,9 @@ use lib.IntN.{pos}
 use Rattle.arithmetic.specs.Greatest.{Greatest}
 use Rattle.arithmetic.specs.inside.Halving.{Between}
 use Rattle.arithmetic.specs.Signed.{nat_of}
-use Rattle.arithmetic.proofs.Order.{to-ℤ, of-ℤ, low-natural, high-natural, positive}
+use Rattle.arithmetic.proofs.Order.{to_ℤ, of_ℤ, low_natural, high_natural, positive}
 use Rattle.answers.proofs.Refusals.{goes_on}
-use Rattle.arithmetic.proofs.Greatest.{Falling, next-has-not, reworded}
+use Rattle.arithmetic.proofs.Greatest.{Falling, next_has_not, reworded}
 use Rattle.units.specs.declared.Sixteenths.{Sixteenths}
 use Rattle.units.specs.declared.Picometres.{Picometres}
 use Rattle.length.specs.declared.Sharpness.{Sharpness}
@@ -21,45 +21,45 @@ falling t j k le h = le_trans (mul-le-mul_left 512 (mul-le-mul le le)) h
 
 -- the ranges, of natural numbers
 pub record Ranged (f p : ℕ) : Type 0 where
-  pub factor-low : 1 ≤ f
-  pub factor-high : f ≤ 16384
-  pub pixel-low : 1 ≤ p
-  pub pixel-high : p ≤ 100000
+  pub factor_low : 1 ≤ f
+  pub factor_high : f ≤ 16384
+  pub pixel_low : 1 ≤ p
+  pub pixel_high : p ≤ 100000
 
 -- what is in range is so as a natural number
-pub to-natural : (s : Sixteenths) (p : Picometres) → InRange s p → Ranged (nat_of s.0) p.0
-to-natural s p ok =
+pub to_natural : (s : Sixteenths) (p : Picometres) → InRange s p → Ranged (nat_of s.0) p.0
+to_natural s p ok =
     record {
-      factor-low = low-natural s.0 ok.factor-low;
-      factor-high = high-natural s.0 ok.factor-high;
-      pixel-low = ok.pixel-low;
-      pixel-high = ok.pixel-high;
+      factor_low = low_natural s.0 ok.factor_low;
+      factor_high = high_natural s.0 ok.factor_high;
+      pixel_low = ok.pixel_low;
+      pixel_high = ok.pixel_high;
     }
 
 -- and the other way round; then what halving finds is the document's length
 module _ (s : Sixteenths) (p : Picometres) (ok : Ranged (nat_of s.0) p.0) where
   whole : s.0 ≡ pos (nat_of s.0)
-  whole = positive s.0 ok.factor-low
+  whole = positive s.0 ok.factor_low
 
-  in-range : InRange s p
-  in-range =
+  in_range : InRange s p
+  in_range =
       record {
-        factor-low = rw whole (to-ℤ ok.factor-low);
-        factor-high = rw whole (to-ℤ ok.factor-high);
-        pixel-low = ok.pixel-low;
-        pixel-high = ok.pixel-high;
+        factor_low = rw whole (to_ℤ ok.factor_low);
+        factor_high = rw whole (to_ℤ ok.factor_high);
+        pixel_low = ok.pixel_low;
+        pixel_high = ok.pixel_high;
       }
 
   greatest : {q : ℕ} → Greatest (λ k. 512 * (k * k) ≤ p.0 * nat_of s.0 * (p.0 * nat_of s.0)) q → Greatest (NotLonger s p) q
-  greatest g = rw whole (reworded (λ (k : ℕ) h. to-ℤ h) (λ (k : ℕ) h. of-ℤ h) g)
+  greatest g = rw whole (reworded (λ (k : ℕ) h. to_ℤ h) (λ (k : ℕ) h. of_ℤ h) g)
 
   pub is-the-length : (r : Sharpness) → r.number ≡ 0
       → Greatest (λ k. 512 * (k * k) ≤ p.0 * nat_of s.0 * (p.0 * nat_of s.0)) r.length.0 → LengthIs s p r
-  is-the-length r done g = goes_on in-range (record { number = done; length = greatest g })
+  is-the-length r done g = goes_on in_range (record { number = done; length = greatest g })
 
 -- the product and its square have room in 64 bits
 pub product : {f p : ℕ} → Ranged f p → p * f ≤ 1638400000
-product ok = mul-le-mul ok.pixel-high ok.factor-high
+product ok = mul-le-mul ok.pixel_high ok.factor_high
 
 pub squared : {t : ℕ} → t ≤ 1638400000 → t * t ≤ 1638400000 * 1638400000
 squared h = mul-le-mul h h
@@ -80,6 +80,6 @@ pub same_answer : {r r' : Sharpness} → r.number ≡ r'.number → r.length.0 �
 same_answer {r} {r'} number length = ap (λ (n : ℕ). sharpness n r.length.0) number ∙ ap (sharpness r'.number) length
 
 -- the length is rounded down: q picometres are at most the sharpness, and q + 1 are not
-pub rounded-down : (s : Sixteenths) (p : Picometres) (r : Sharpness) → Done s p r
+pub rounded_down : (s : Sixteenths) (p : Picometres) (r : Sharpness) → Done s p r
     → NotLonger s p r.length.0 × (¬ NotLonger s p (r.length.0 + 1))
-rounded-down s p r done = (done.length.holds, next-has-not done.length)
+rounded_down s p r done = (done.length.holds, next_has_not done.length)

@@ -10,10 +10,10 @@ use Rattle.length.specs.declared.Sharpness.{Sharpness}
 
 -- "For sharpness factor s (sixteenths of a pixel, 1 to 16,384) and pixel size p (picometres, 1 to 100,000)"
 pub record InRange (s : Sixteenths) (p : Picometres) : Type 0 where
-  pub factor-low : pos 1 ≤ℤ s.0
-  pub factor-high : s.0 ≤ℤ pos 16_384
-  pub pixel-low : 1 ≤ p.0
-  pub pixel-high : p.0 ≤ 100_000
+  pub factor_low : pos 1 ≤ℤ s.0
+  pub factor_high : s.0 ≤ℤ pos 16_384
+  pub pixel_low : 1 ≤ p.0
+  pub pixel_high : p.0 ≤ 100_000
 
 -- "512·q² ≤ (p·s)²". The factor is s/16 pixels, so p·s/16 picometres; over the square root of 2, and squared, (p·s)²/512.
 -- So this says that q picometres are at most the sharpness, with no root and nothing rounded.

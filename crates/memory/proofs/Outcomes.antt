@@ -9,18 +9,18 @@ use Rattle.answers.proofs.Refusals.{alike, together, past}
 use Rattle.picture.specs.Picture.{Side}
 use Rattle.memory.specs.Memory.{memory, zeros, Begun, StartIs}
 
-pub one-start : (held : List ℕ) (w h n n' : ℕ) (left left' : List ℕ) → StartIs held w h n left → StartIs held w h n' left'
+pub one_start : (held : List ℕ) (w h n n' : ℕ) (left left' : List ℕ) → StartIs held w h n left → StartIs held w h n' left'
     → (n ≡ n') × (left ≡ left')
-one-start held w h n n' left left' = together both both
+one_start held w h n n' left left' = together both both
   where
     both : {c : ℕ} {l : List ℕ} → (n ≡ c) × (left ≡ l) → (n' ≡ c) × (left' ≡ l) → (n ≡ n') × (left ≡ left')
     both p q = (alike p.0 q.0, alike p.1 q.1)
 
-pub one-begun : (held : List ℕ) (a b : Bool) → Unless (Begun held) (a ≡ false) (a ≡ true) → Unless (Begun held) (b ≡ false) (b ≡ true)
+pub one_begun : (held : List ℕ) (a b : Bool) → Unless (Begun held) (a ≡ false) (a ≡ true) → Unless (Begun held) (b ≡ false) (b ≡ true)
     → a ≡ b
-one-begun held a b = together alike alike
+one_begun held a b = together alike alike
 
 -- what a caller knows whose memory is long enough and whose sides are a picture's
-pub when-starts : (held : List ℕ) (w h n : ℕ) (left : List ℕ) → 6147 ≤ length held → Side w → Side h → StartIs held w h n left
+pub when_starts : (held : List ℕ) (w h n : ℕ) (left : List ℕ) → 6147 ≤ length held → Side w → Side h → StartIs held w h n left
     → left ≡ memory w h 0 (zeros 6144) (drop 6147 held)
-when-starts held w h n left long width height d = (past (long, width, height) d).1
+when_starts held w h n left long width height d = (past (long, width, height) d).1

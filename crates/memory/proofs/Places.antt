@@ -9,37 +9,37 @@ use native.Mathlib.Omega.{arith}
 use lib.ListN.{length, take, drop, length-append}
 use lib.Seq.{slice, length-slice, take_at, drop_at, take-append-le, take-take, drop-drop, length-take-le}
 use Rattle.arithmetic.specs.Lists.{AtMost, over}
-use Rattle.arithmetic.proofs.Lists.{part-is, most-append, most-take, most-drop, most-slice}
+use Rattle.arithmetic.proofs.Lists.{part_is, most_append, most_take, most_drop, most_slice}
 use Rattle.memory.specs.Memory.{row_at}
 
 -- ---- a row
-pub length-row-at : (w i : ℕ) (l : List ℕ) → i * w + w ≤ length l → length (row_at w l i) ≡ w
+pub length_row_at : (w i : ℕ) (l : List ℕ) → i * w + w ≤ length l → length (row_at w l i) ≡ w
 unfolding row_at
-length-row-at w i l inside = length-slice (i * w) (i * w + w) l inside ∙ omega arith
+length_row_at w i l inside = length-slice (i * w) (i * w + w) l inside ∙ omega arith
 
-pub most-row-at : (b w i : ℕ) (l : List ℕ) → AtMost b l → AtMost b (row_at w l i)
+pub most_row_at : (b w i : ℕ) (l : List ℕ) → AtMost b l → AtMost b (row_at w l i)
 unfolding row_at
-most-row-at b w i l small = most-slice b (i * w) (i * w + w) l small
+most_row_at b w i l small = most_slice b (i * w) (i * w + w) l small
 
 -- the part that the code lends
-pub part-row : (w i at end : ℕ) (l : List ℕ) → at ≡ i * w → end ≡ at + w → take (end - at) (drop at l) ≡ row_at w l i
+pub part_row : (w i at end : ℕ) (l : List ℕ) → at ≡ i * w → end ≡ at + w → take (end - at) (drop at l) ≡ row_at w l i
 unfolding row_at
-part-row w i at end l e f = part-is at end l (omega arith) ∙ rw (f, e)
+part_row w i at end l e f = part_is at end l (omega arith) ∙ rw (f, e)
 
 -- the row that lies between others
-pub row-at-between : (w i : ℕ) (before row behind : List ℕ) → length before ≡ i * w → length row ≡ w
+pub row_at_between : (w i : ℕ) (before row behind : List ℕ) → length before ≡ i * w → length row ≡ w
     → row_at w (before ++ row ++ behind) i ≡ row
 unfolding row_at
-row-at-between w i before row behind e f =
+row_at_between w i before row behind e f =
     let both : length (before ++ row) ≡ i * w + w = length-append before row ∙ omega (arith, e, f) in
     ap (drop (i * w)) (take_at (before ++ row) behind (i * w + w) both) ∙ drop_at before row (i * w) e
 
 -- ---- a list written over another
-pub most-over : (b at : ℕ) (l r : List ℕ) → AtMost b l → AtMost b r → AtMost b (over l at r)
-most-over b at l r small small_r =
-    most-append b (take at l ++ r) (drop (at + length r) l)
-    (most-append b (take at l) r (most-take b at l small) small_r)
-    (most-drop b (at + length r) l small)
+pub most_over : (b at : ℕ) (l r : List ℕ) → AtMost b l → AtMost b r → AtMost b (over l at r)
+most_over b at l r small small_r =
+    most_append b (take at l ++ r) (drop (at + length r) l)
+    (most_append b (take at l) r (most_take b at l small) small_r)
+    (most_drop b (at + length r) l small)
 
 module _ (at : ℕ) (l r : List ℕ) (room : at + length r ≤ length l) where
   head-long : length (take at l ++ r) ≡ at + length r
@@ -84,9 +84,9 @@ module _ (w i : ℕ) (l r : List ℕ) (few : length r ≤ w) (room : i * w + w �
     | no g ↦
         let more : suc i ≤ j = beyond g in
         let past : i * w + length r ≤ j * w = omega (arith, mul-le-mul_right w more, suc-mul i w) in
-        sym (part-is (j * w) (j * w + w) (over l (i * w) r) (omega arith))
+        sym (part_is (j * w) (j * w + w) (over l (i * w) r) (omega arith))
         ∙ ap (take (j * w + w - j * w)) (drop-behind (i * w) l r fits (j * w) past)
-        ∙ part-is (j * w) (j * w + w) l (omega arith)
+        ∙ part_is (j * w) (j * w + w) l (omega arith)
   ]
     where
       beyond : (j < i → ⊥) → suc i ≤ j

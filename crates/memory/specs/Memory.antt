@@ -10,12 +10,12 @@ use Rattle.picture.specs.Picture.{Side}
 abbrev pub width_of : List ℕ → ℕ
 width_of held = get_or held 0 0
 
-abbrev pub heightOf : List ℕ → ℕ
-heightOf held = get_or held 1 0
+abbrev pub height_of : List ℕ → ℕ
+height_of held = get_or held 1 0
 
 -- how many rows came; once the end was given, three more than the height
-abbrev pub cameOf : List ℕ → ℕ
-cameOf held = get_or held 2 0
+abbrev pub came_of : List ℕ → ℕ
+came_of held = get_or held 2 0
 
 -- where the six rows lie, one behind the other: there is room for 1,024 numbers to a row
 unfoldable pub rows_of : List ℕ → List ℕ
@@ -32,21 +32,21 @@ unfoldable pub row_at : ℕ → List ℕ → ℕ → List ℕ
 row_at w l i = slice (i * w) (i * w + w) l
 
 -- two of the six rows: those of the levels, of pass one or of pass two, where pass is 0, 1 or 2
-unfoldable pub twoOf : ℕ → List ℕ → ℕ → List ℕ
-twoOf w rows pass = row_at (w + w) rows pass
+unfoldable pub two_of : ℕ → List ℕ → ℕ → List ℕ
+two_of w rows pass = row_at (w + w) rows pass
 
 -- ---- whether a good start has begun it
 -- levels are at most 255, and "the first pass is held in halves, the second in quarters" (document 01)
 pub record Ranges (w : ℕ) (rows : List ℕ) : Type 0 where
-  pub levels : AtMost 255 (twoOf w rows 0)
-  pub halves : AtMost 510 (twoOf w rows 1)
-  pub quarters : AtMost 1_020 (twoOf w rows 2)
+  pub levels : AtMost 255 (two_of w rows 0)
+  pub halves : AtMost 510 (two_of w rows 1)
+  pub quarters : AtMost 1_020 (two_of w rows 2)
 
 -- long enough, with the sides of a picture and rows in range. Any other, all zeros or too short, is as "before a good start".
 pub record Begun (held : List ℕ) : Type 0 where
   pub long : 6_147 ≤ length held
   pub width : Side (width_of held)
-  pub height : Side (heightOf held)
+  pub height : Side (height_of held)
   pub ranges : Ranges (width_of held) (rows_of held)
 
 -- ---- a start

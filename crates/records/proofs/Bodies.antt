@@ -5,7 +5,7 @@ use Prim.Native.Nat.{ℕ, ◌+◌, ◌≤◌}
 use native.Mathlib.Omega.{arith}
 use lib.Dec.{lit≤}
 use Rattle.answers.specs.Refusals.{Unless}
-use Rattle.records.specs.Records.{Known, bodyLength}
+use Rattle.records.specs.Records.{Known, body_length}
 
 module _ {kind : ℕ} where
   -- a kind that is neither 1 nor 2 nor 3 is not known
@@ -21,20 +21,20 @@ module _ {kind : ℕ} where
   third (inr (inr e)) one two = e
 
   -- no body is empty
-  pub some : Known kind → 1 ≤ bodyLength kind
+  pub some : Known kind → 1 ≤ body_length kind
   some (inl e) = rw e (lit≤ tt)
   some (inr (inl e)) = rw e (lit≤ tt)
   some (inr (inr e)) = rw e (lit≤ tt)
 
   -- so a length of 0 says that the kind is not known, and any other that it is, and how long its body is
-  pub told-unknown : {n : ℕ} → Unless (Known kind) (n ≡ 0) (n ≡ bodyLength kind) → n ≡ 0 → ¬ Known kind
+  pub told-unknown : {n : ℕ} → Unless (Known kind) (n ≡ 0) (n ≡ body_length kind) → n ≡ 0 → ¬ Known kind
   told-unknown (inl a) z ok = a.0 ok
   told-unknown (inr b) z ok = let is = b.1 in let one = some ok in omega arith
 
-  pub told-known : {n : ℕ} → Unless (Known kind) (n ≡ 0) (n ≡ bodyLength kind) → ¬ (n ≡ 0) → Known kind × (n ≡ bodyLength kind)
+  pub told-known : {n : ℕ} → Unless (Known kind) (n ≡ 0) (n ≡ body_length kind) → ¬ (n ≡ 0) → Known kind × (n ≡ body_length kind)
   told-known (inl a) more = absurd (more a.1)
   told-known (inr b) more = b
 
 -- where a body ends, of a kind that is told
-pub ends_by : {kind k end : ℕ} (start : ℕ) → kind ≡ k → end ≡ start + bodyLength kind → end ≡ start + bodyLength k
-ends_by start e ends = ends ∙ ap (λ (k : ℕ). start + bodyLength k) e
+pub ends_by : {kind k end : ℕ} (start : ℕ) → kind ≡ k → end ≡ start + body_length kind → end ≡ start + body_length k
+ends_by start e ends = ends ∙ ap (λ (k : ℕ). start + body_length k) e

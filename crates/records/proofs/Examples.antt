@@ -13,8 +13,8 @@ use Rattle.records.specs.declared.Record.{Record}
 use Rattle.records.specs.declared.Record.TheVariants.{Picture, Pixel, End, Bad}
 use Rattle.records.specs.Records.{RecordIs}
 use Rattle.records.proofs.Bodies.{unknown}
-use Rattle.records.proofs.Outcomes.{one-record-at}
-use Rattle.records.proofs.Reading.{known-or-not, of-known, found}
+use Rattle.records.proofs.Outcomes.{one_record_at}
+use Rattle.records.proofs.Reading.{known_or_not, of-known, found}
 
 -- a row of the table: an input, an offset, and the record there
 pub record Row : Type 0 where
@@ -37,7 +37,7 @@ hold : (l : List Row) → EveryRow Finds l → EveryRow Holds l
 hold [] found = tt
 hold (w ∷ l) (e, rest) =
     let there = found w.input w.offset in
-    (λ r is. one-record-at w.input w.offset r there.0 is there.1 ∙ e, hold l rest)
+    (λ r is. one_record_at w.input w.offset r there.0 is there.1 ∙ e, hold l rest)
 
 -- "one kind-1 record whose levels are all 40"
 abbrev pub forty : List ℕ
@@ -61,18 +61,18 @@ table =
     ∷ []
 
 pub worked : EveryRow Holds table
-unfolding dec_le dec_lt ℕ_discrete known-or-not of-known found
+unfolding dec_le dec_lt ℕ_discrete known_or_not of-known found
 worked = hold table (refl, (refl, (refl, (refl, (refl, (refl, (refl, (refl, (refl, (refl, (refl, (refl, (refl, tt)))))))))))))
 
 -- ---- "program input above 32,768 bytes": so many zeros are looked at, and one byte more is refused, whatever
 -- the byte and the offset
-pub just-full : (r : Record) → RecordIs (replicate 32768 0) 0 r → r ≡ Bad 16 0
-just-full r is =
-    one-record-at (replicate 32768 0) 0 r (Bad 16 0) is
+pub just_full : (r : Record) → RecordIs (replicate 32768 0) 0 r → r ≡ Bad 16 0
+just_full r is =
+    one_record_at (replicate 32768 0) 0 r (Bad 16 0) is
     (goes_on (omega (arith, length-replicate {A = ℕ} 32768 0))
     (goes_on (omega (arith, length-replicate {A = ℕ} 32768 0))
     (stops (unknown (λ (e : ◌≡◌ {A = ℕ} 0 1). omega arith) (λ (e : ◌≡◌ {A = ℕ} 0 2). omega arith)
     (λ (e : ◌≡◌ {A = ℕ} 0 3). omega arith)) refl)))
 
 pub too_long : (b at : ℕ) (r : Record) → RecordIs (replicate 32769 b) at r → r ≡ Bad 18 32768
-too_long b at r is = one-record-at (replicate 32769 b) at r (Bad 18 32768) is (stops (λ few. omega (arith, length-replicate 32769 b)) refl)
+too_long b at r is = one_record_at (replicate 32769 b) at r (Bad 18 32768) is (stops (λ few. omega (arith, length-replicate 32769 b)) refl)

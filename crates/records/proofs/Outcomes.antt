@@ -12,39 +12,39 @@ use Rattle.units.specs.declared.Picometres.{Picometres}
 use Rattle.records.specs.declared.Record.{Record}
 use Rattle.records.specs.declared.Record.TheVariants.{Picture, Pixel, End, Bad}
 use Rattle.units.specs.Units.{picometres}
-use Rattle.arithmetic.specs.Bytes.{byte, fourBytes}
-use Rattle.records.specs.Records.{Known, bodyLength, Answer, answer, answer_of, byKind, RecordIs, Follows}
+use Rattle.arithmetic.specs.Bytes.{byte, four_bytes}
+use Rattle.records.specs.Records.{Known, body_length, Answer, answer, answer_of, by_kind, RecordIs, Follows}
 
 -- ---- the record of an answer: how many values there are tells the cases apart
-abbrev withValues : ℕ → List ℕ → Record
-withValues number [] = End
-withValues number (offset ∷ []) = Bad number offset
-withValues number (size ∷ end ∷ []) = Pixel (picometres size) end
-withValues number (side ∷ start ∷ end ∷ []) = Picture side start end
-withValues number (side ∷ start ∷ end ∷ more ∷ rest) = End
+abbrev with_values : ℕ → List ℕ → Record
+with_values number [] = End
+with_values number (offset ∷ []) = Bad number offset
+with_values number (size ∷ end ∷ []) = Pixel (picometres size) end
+with_values number (side ∷ start ∷ end ∷ []) = Picture side start end
+with_values number (side ∷ start ∷ end ∷ more ∷ rest) = End
 
-abbrev recordOf : Answer → Record
-recordOf a = withValues a.number a.values
+abbrev record_of : Answer → Record
+record_of a = with_values a.number a.values
 
-answered : {a : Answer} (r : Record) → answer_of r ≡ a → r ≡ recordOf a
-answered r e = sym (back r) ∙ ap recordOf e
+answered : {a : Answer} (r : Record) → answer_of r ≡ a → r ≡ record_of a
+answered r e = sym (back r) ∙ ap record_of e
   where
-    back : (r : Record) → recordOf (answer_of r) ≡ r
+    back : (r : Record) → record_of (answer_of r) ≡ r
     back (Picture side start end) = refl
     back (Pixel size end) = refl
     back End = refl
     back (Bad number offset) = refl
 
 -- so an answer is that of one record only
-pub one-answered : {a : Answer} (r r' : Record) → answer_of r ≡ a → answer_of r' ≡ a → r ≡ r'
-one-answered r r' e e' = alike (answered r e) (answered r' e')
+pub one_answered : {a : Answer} (r r' : Record) → answer_of r ≡ a → answer_of r' ≡ a → r ≡ r'
+one_answered r r' e e' = alike (answered r e) (answered r' e')
 
 -- any two records that the promise permits at an offset are one
-pub one-record-at : (input : List ℕ) (at : ℕ) (r r' : Record) → RecordIs input at r → RecordIs input at r' → r ≡ r'
-one-record-at input at r r' = together same (together same (together same (together same same)))
+pub one_record_at : (input : List ℕ) (at : ℕ) (r r' : Record) → RecordIs input at r → RecordIs input at r' → r ≡ r'
+one_record_at input at r r' = together same (together same (together same (together same same)))
   where
     same : {a : Answer} → answer_of r ≡ a → answer_of r' ≡ a → r ≡ r'
-    same = one-answered r r'
+    same = one_answered r r'
 
 -- ---- which of the four a record is: a record of one case is none of another; and its numbers
 abbrev which : Record → ℕ
@@ -82,8 +82,8 @@ size_of End = picometres 0
 size_of (Bad number offset) = picometres 0
 
 -- the number and the offset of a bad record, by its answer
-bad-by : {number offset n o : ℕ} → answer_of (Bad number offset) ≡ answer n (o ∷ []) → (number ≡ n) × (offset ≡ o)
-bad-by {number} {offset} e = (ap (λ (a : Answer). a.number) e, ap start_of (answered (Bad number offset) e))
+bad_by : {number offset n o : ℕ} → answer_of (Bad number offset) ≡ answer n (o ∷ []) → (number ≡ n) × (offset ≡ o)
+bad_by {number} {offset} e = (ap (λ (a : Answer). a.number) e, ap start_of (answered (Bad number offset) e))
 
 module _ (input : List ℕ) (at : ℕ) where
   -- ---- a good record: the input is not too long, the record is one of three, by its kind, and its body is all there
@@ -92,10 +92,10 @@ module _ (input : List ℕ) (at : ℕ) where
       (length input ≤ 32768)
       × (((r ≡ Picture 16 (at + 1) (at + 1 + 256)) × (at + 1 + 256 ≤ length input))
       ⊎ (((r ≡ Picture 64 (at + 1) (at + 1 + 4096)) × (at + 1 + 4096 ≤ length input))
-      ⊎ ((r ≡ Pixel (picometres (fourBytes input (at + 1))) (at + 1 + 4)) × (at + 1 + 4 ≤ length input))))
+      ⊎ ((r ≡ Pixel (picometres (four_bytes input (at + 1))) (at + 1 + 4)) × (at + 1 + 4 ≤ length input))))
 
-  of-kind : (r : Record) (kind : ℕ) → length input ≤ 32768 → Known kind → at + 1 + bodyLength kind ≤ length input
-      → answer_of r ≡ byKind input kind (at + 1) (at + 1 + bodyLength kind) → Whole r
+  of-kind : (r : Record) (kind : ℕ) → length input ≤ 32768 → Known kind → at + 1 + body_length kind ≤ length input
+      → answer_of r ≡ by_kind input kind (at + 1) (at + 1 + body_length kind) → Whole r
   of-kind r kind few (inl e) there is = (few, inl (answered r (rw e at is), rw e at there))
   of-kind r kind few (inr (inl e)) there is = (few, inr (inl (answered r (rw e at is), rw e at there)))
   of-kind r kind few (inr (inr e)) there is = (few, inr (inr (answered r (rw e at is), rw e at there)))
@@ -111,17 +111,17 @@ module _ (input : List ℕ) (at : ℕ) where
   pub record Levels (side start end : ℕ) : Type 0 where
     pub starts : start ≡ at + 1
     pub ends : end ≡ start + side * side
-    pub side-is : (side ≡ 16) ⊎ (side ≡ 64)
+    pub side_is : (side ≡ 16) ⊎ (side ≡ 64)
     pub inside : end ≤ length input
     pub few : length input ≤ 32768
 
   levels : (side start end : ℕ) → Whole (Picture side start end) → Levels side start end
   levels side start end (few, inl (is, there)) =
       let s = ap side_of is in let b = ap start_of is in let e = ap end_of is in
-      record { starts = b; ends = rw s (omega arith); side-is = inl s; inside = omega arith; few = few }
+      record { starts = b; ends = rw s (omega arith); side_is = inl s; inside = omega arith; few = few }
   levels side start end (few, inr (inl (is, there))) =
       let s = ap side_of is in let b = ap start_of is in let e = ap end_of is in
-      record { starts = b; ends = rw s (omega arith); side-is = inr s; inside = omega arith; few = few }
+      record { starts = b; ends = rw s (omega arith); side_is = inr s; inside = omega arith; few = few }
   levels side start end (few, inr (inr (is, there))) = conflict is (λ e. omega arith)
 
   pub picture-lies : (side start end : ℕ) → RecordIs input at (Picture side start end) → Levels side start end
@@ -129,7 +129,7 @@ module _ (input : List ℕ) (at : ℕ) where
 
   -- a pixel's size: its four bytes follow the kind byte, all in the input
   pub record Size (size : Picometres) (end : ℕ) : Type 0 where
-    pub size_is : size ≡ picometres (fourBytes input (at + 1))
+    pub size_is : size ≡ picometres (four_bytes input (at + 1))
     pub ends : end ≡ at + 5
     pub inside : end ≤ length input
     pub few : length input ≤ 32768
@@ -161,10 +161,10 @@ module _ (input : List ℕ) (at : ℕ) where
   -- a bad one has the number 18 and the offset 32,768, or the number 16 or 17 and its own offset
   pub bad-is : (number offset : ℕ) → RecordIs input at (Bad number offset)
       → ((number ≡ 18) × (offset ≡ 32768)) ⊎ (((number ≡ 16) ⊎ (number ≡ 17)) × (offset ≡ at))
-  bad-is number offset (inl a) = inl (bad-by a.1)
+  bad-is number offset (inl a) = inl (bad_by a.1)
   bad-is number offset (inr (few, inl a)) = conflict (answered (Bad number offset) a.1) (λ e. omega arith)
-  bad-is number offset (inr (few, inr (in-it, inl a))) = let b = bad-by a.1 in inr (inl b.0, b.1)
-  bad-is number offset (inr (few, inr (in-it, inr (known, inl a)))) = let b = bad-by a.1 in inr (inr b.0, b.1)
+  bad-is number offset (inr (few, inr (in-it, inl a))) = let b = bad_by a.1 in inr (inl b.0, b.1)
+  bad-is number offset (inr (few, inr (in-it, inr (known, inl a)))) = let b = bad_by a.1 in inr (inr b.0, b.1)
   bad-is number offset (inr (few, inr (in-it, inr (known, inr (there, is))))) =
       let good = not-bad (Bad number offset) (of-kind (Bad number offset) (byte input at) few known there is) in
       absurd (let no : ⊥ = omega arith in no)

@@ -12,10 +12,10 @@ use Rattle.answers.proofs.Refusals.{stops, goes_on}
 use Rattle.units.specs.Units.{picometres}
 use Rattle.records.specs.declared.Record.{Record}
 use Rattle.records.specs.declared.Record.TheVariants.{Picture, Pixel, End, Bad}
-use Rattle.arithmetic.specs.Bytes.{byte, fourBytes}
-use Rattle.records.specs.Records.{Known, bodyLength, answer_of, byKind, RecordIs, Follows, Last, Reading}
+use Rattle.arithmetic.specs.Bytes.{byte, four_bytes}
+use Rattle.records.specs.Records.{Known, body_length, answer_of, by_kind, RecordIs, Follows, Last, Reading}
 use Rattle.records.proofs.Bodies.{unknown}
-use Rattle.records.proofs.Outcomes.{one-record-at, moves-on}
+use Rattle.records.proofs.Outcomes.{one_record_at, moves-on}
 
 -- ---- an input that is read from its first byte on: k good records lie before an offset, in that whatever is read from there on makes a
 -- reading of the whole input with k good records more
@@ -50,8 +50,8 @@ one_follows r r' n n' e a b = same r' (subst (λ (q : Record). Follows q n) e a)
     same End x y = absurd x
     same (Bad number offset) x y = absurd x
 
-pub not-both : (r r' : Record) (n : ℕ) → r ≡ r' → Follows r n → ¬ Last r'
-not-both r r' n e a b = same r' (subst (λ (q : Record). Follows q n) e a) b
+pub not_both : (r r' : Record) (n : ℕ) → r ≡ r' → Follows r n → ¬ Last r'
+not_both r r' n e a b = same r' (subst (λ (q : Record). Follows q n) e a) b
   where
     same : (q : Record) → Follows q n → ¬ Last q
     same (Picture side start end) x y = y
@@ -60,8 +60,8 @@ not-both r r' n e a b = same r' (subst (λ (q : Record). Follows q n) e a) b
     same (Bad number offset) x y = x
 
 -- ---- reading an input
-unfoldable pub known-or-not : (kind : ℕ) → Dec (Known kind)
-known-or-not kind = elim (ℕ_discrete kind 1) [
+unfoldable pub known_or_not : (kind : ℕ) → Dec (Known kind)
+known_or_not kind = elim (ℕ_discrete kind 1) [
   | yes e ↦ yes (inl e)
   | no one ↦ elim (ℕ_discrete kind 2) [
     | yes e ↦ yes (inr (inl e))
@@ -74,19 +74,19 @@ known-or-not kind = elim (ℕ_discrete kind 1) [
 
 module _ (input : List ℕ) where
   -- ---- there is a record at every offset
-  unfoldable pub of-known : (at kind : ℕ) → Known kind → (r : Record) × (answer_of r ≡ byKind input kind (at + 1) (at + 1 + bodyLength kind))
+  unfoldable pub of-known : (at kind : ℕ) → Known kind → (r : Record) × (answer_of r ≡ by_kind input kind (at + 1) (at + 1 + body_length kind))
   of-known at kind (inl e) = (Picture 16 (at + 1) (at + 1 + 256), rw e refl)
   of-known at kind (inr (inl e)) = (Picture 64 (at + 1) (at + 1 + 4096), rw e refl)
-  of-known at kind (inr (inr e)) = (Pixel (picometres (fourBytes input (at + 1))) (at + 1 + 4), rw e refl)
+  of-known at kind (inr (inr e)) = (Pixel (picometres (four_bytes input (at + 1))) (at + 1 + 4), rw e refl)
 
   unfoldable pub found : (at : ℕ) → (r : Record) × RecordIs input at r
   found at = elim (dec_le (length input) 32768) [
     | no f ↦ (Bad 18 32768, stops f refl)
     | yes few ↦ elim (dec_lt at (length input)) [
       | no f ↦ (End, goes_on few (stops f refl))
-      | yes in-it ↦ elim (known-or-not (byte input at)) [
+      | yes in-it ↦ elim (known_or_not (byte input at)) [
         | no f ↦ (Bad 16 at, goes_on few (goes_on in-it (stops f refl)))
-        | yes k ↦ elim (dec_le (at + 1 + bodyLength (byte input at)) (length input)) [
+        | yes k ↦ elim (dec_le (at + 1 + body_length (byte input at)) (length input)) [
           | no f ↦ (Bad 17 at, goes_on few (goes_on in-it (goes_on k (stops f refl))))
           | yes there ↦ let w = of-known at (byte input at) k in (w.0, goes_on few (goes_on in-it (goes_on k (goes_on there w.1))))
         ]
@@ -125,14 +125,14 @@ module _ (input : List ℕ) where
 
   -- in one way only: after as many good records, and at the same last one
   pub one-reading : (k k' at : ℕ) (last last' : Record) → Reading input k at last → Reading input k' at last' → (k ≡ k') × (last ≡ last')
-  one-reading zero zero at last last' a b = (refl, one-record-at input at last last' a.0 b.0)
+  one-reading zero zero at last last' a b = (refl, one_record_at input at last last' a.0 b.0)
   one-reading zero (suc k') at last last' a b =
-      absurd (not-both b.0 last b.1.1.0 (one-record-at input at b.0 last b.1.0 a.0) b.1.1.1.0 a.1)
+      absurd (not_both b.0 last b.1.1.0 (one_record_at input at b.0 last b.1.0 a.0) b.1.1.1.0 a.1)
   one-reading (suc k) zero at last last' a b =
-      absurd (not-both a.0 last' a.1.1.0 (one-record-at input at a.0 last' a.1.0 b.0) a.1.1.1.0 b.1)
+      absurd (not_both a.0 last' a.1.1.0 (one_record_at input at a.0 last' a.1.0 b.0) a.1.1.1.0 b.1)
   one-reading (suc k) (suc k') at last last' a b =
       let same =
-      one_follows a.0 b.0 a.1.1.0 b.1.1.0 (one-record-at input at a.0 b.0 a.1.0 b.1.0)
+      one_follows a.0 b.0 a.1.1.0 b.1.1.0 (one_record_at input at a.0 b.0 a.1.0 b.1.0)
       a.1.1.1.0 b.1.1.1.0 in
       let rest =
       one-reading k k' b.1.1.0 last last' (subst (λ (n : ℕ). Reading input k n last) same a.1.1.1.1) b.1.1.1.1 in

@@ -1,8 +1,8 @@
 // The records of the program's input (document 01, "The program"): which one begins at an offset.
 ghost use Rattle.std.specs.Prelude.{◌≡◌, ◌+◌, ◌≤◌, length};
 ghost use Rattle.answers.specs.Refusals.{Unless};
-ghost use Rattle.arithmetic.specs.Bytes.{fourBytes};
-ghost use Rattle.records.specs.Records.{Known, bodyLength, answer_of, byKind, RecordIs};
+ghost use Rattle.arithmetic.specs.Bytes.{four_bytes};
+ghost use Rattle.records.specs.Records.{Known, body_length, answer_of, by_kind, RecordIs};
 ghost use Rattle.records.specs.inside.Body.{Body};
 ghost use Rattle.units.specs.Units.{picometres};
 
@@ -69,7 +69,7 @@ pub fn record_at(input: &[u8], at: usize) -> Record
 
 // How many bytes the body of a kind has; none where there is no such kind.
 fn body_length(kind: u8) -> usize
-    ensures { Unless (Known kind) (result ≡ 0) (result ≡ bodyLength kind) }
+    ensures { Unless (Known kind) (result ≡ 0) (result ≡ body_length kind) }
 {
     match kind {
         1 => 256,
@@ -82,7 +82,7 @@ fn body_length(kind: u8) -> usize
 // A record of a known kind, whose body is all there.
 fn by_kind(input: &[u8], kind: u8, start: usize, end: usize) -> Record
     requires { Body input.now kind start end }
-    ensures { answer_of result ≡ byKind input.now kind start end }
+    ensures { answer_of result ≡ by_kind input.now kind start end }
 {
     match kind {
         1 => Record::Picture {
@@ -105,7 +105,7 @@ fn by_kind(input: &[u8], kind: u8, start: usize, end: usize) -> Record
 // The size of a pixel: four bytes, the low one first.
 fn pixel_size(input: &[u8], start: usize) -> Picometres
     requires { start + 4 ≤ length input.now }
-    ensures { result ≡ picometres (fourBytes input.now start) }
+    ensures { result ≡ picometres (four_bytes input.now start) }
 {
     let low = bytes::pair(input[start], input[start + 1]);
     let high = bytes::pair(input[start + 2], input[start + 3]);

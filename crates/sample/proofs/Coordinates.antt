@@ -10,8 +10,8 @@ use lib.Signed.{◌≤ℤ◌, shr_z}
 use borrow.Author.Tests.{le-leb, lt-leb}
 use Rattle.answers.specs.Refusals.{Unless}
 use Rattle.arithmetic.specs.Signed.{nat_of}
-use Rattle.arithmetic.proofs.Order.{le-or-lt, to-ℤ, of-ℤ}
-use Rattle.arithmetic.proofs.Differences.{sub-pos, sub-neg, pos-minus, less-plus}
+use Rattle.arithmetic.proofs.Order.{le_or_lt, to_ℤ, of_ℤ}
+use Rattle.arithmetic.proofs.Differences.{sub_pos, sub_neg, pos_minus, less_plus}
 use Rattle.answers.proofs.Refusals.{stops, goes_on}
 use Rattle.units.specs.declared.Sixteenths.{Sixteenths}
 use Rattle.sample.specs.declared.Coordinate.{Coordinate}
@@ -19,24 +19,24 @@ use Rattle.sample.specs.Cubic.{pixel, remainder, Inside}
 use Rattle.sample.specs.inside.Asked.{Surrounded, Located}
 
 -- z/16, rounded down, in natural numbers
-pub pixel-natural : (z : ℤ) → nat_of (shr_z z 16) ≡ nat_of z / 16
-pixel-natural (pos n) = refl
-pixel-natural (negsuc n) = refl
+pub pixel_natural : (z : ℤ) → nat_of (shr_z z 16) ≡ nat_of z / 16
+pixel_natural (pos n) = refl
+pixel_natural (negsuc n) = refl
 
 -- z − 16·(z/16) of a natural number is its remainder
 remainder_of : (n : ℕ) → pos n -ℤ pos 16 *ℤ pos (n / 16) ≡ pos (n % 16)
-remainder_of n = pos-minus n (16 * (n / 16)) ∙ sub-pos n (16 * (n / 16)) (omega arith) ∙ ap pos (omega arith)
+remainder_of n = pos_minus n (16 * (n / 16)) ∙ sub_pos n (16 * (n / 16)) (omega arith) ∙ ap pos (omega arith)
 
 -- and of a negative one, −1−n, it is 15 less that of n
-remainder-below : (n : ℕ) → negsuc n -ℤ pos 16 *ℤ negsuc (n / 16) ≡ pos (15 - n % 16)
-remainder-below n =
+remainder_below : (n : ℕ) → negsuc n -ℤ pos 16 *ℤ negsuc (n / 16) ≡ pos (15 - n % 16)
+remainder_below n =
     ap (λ (z : ℤ). negsuc n +ℤ z) (neg_ℤ-neg_ℤ (pos (16 * suc (n / 16))))
-    ∙ sub-pos (16 * suc (n / 16)) (suc n) (omega arith)
+    ∙ sub_pos (16 * suc (n / 16)) (suc n) (omega arith)
     ∙ ap pos (omega arith)
 
 -- −16·m + k, which is negative where k is less
-below-zero : (m k : ℕ) → k < 16 * m → neg_ℤ (pos (16 * m)) +ℤ pos k ≡ negsuc (16 * m - suc k)
-below-zero m k less = less-plus (16 * m) k ∙ sub-neg k (16 * m) less
+below_zero : (m k : ℕ) → k < 16 * m → neg_ℤ (pos (16 * m)) +ℤ pos k ≡ negsuc (16 * m - suc k)
+below_zero m k less = less_plus (16 * m) k ∙ sub_neg k (16 * m) less
 
 -- every x is 16·i + k, with k from 0 to 15
 pub place_is : (x : Sixteenths) → (x.0 ≡ pos 16 *ℤ pixel x +ℤ pos (remainder x)) × (remainder x < 16)
@@ -46,8 +46,8 @@ place_is x = whole x.0
         → (z ≡ pos 16 *ℤ shr_z z 16 +ℤ pos (nat_of (z -ℤ pos 16 *ℤ shr_z z 16))) × (nat_of (z -ℤ pos 16 *ℤ shr_z z 16) < 16)
     whole (pos n) = rw (remainder_of n) (ap pos (omega arith), omega arith)
     whole (negsuc n) =
-        rw (remainder-below n)
-        (sym (below-zero (suc (n / 16)) (15 - n % 16) (omega arith) ∙ ap negsuc (omega arith)), omega arith)
+        rw (remainder_below n)
+        (sym (below_zero (suc (n / 16)) (15 - n % 16) (omega arith) ∙ ap negsuc (omega arith)), omega arith)
 
 -- and in one way only
 pub one_place : (x : Sixteenths) (i : ℤ) (k : ℕ) → x.0 ≡ pos 16 *ℤ i +ℤ pos k → k < 16 → (i ≡ pixel x) × (k ≡ remainder x)
@@ -63,49 +63,49 @@ one_place x i k is small = rw is (only i)
         let z = 16 * suc n - suc k in
         let e : n ≡ z / 16 = omega arith in
         let d : k ≡ 15 - z % 16 = omega arith in
-        rw (below-zero (suc n) k (omega arith)) (ap negsuc e, d ∙ ap nat_of (sym (remainder-below z)))
+        rw (below_zero (suc n) k (omega arith)) (ap negsuc e, d ∙ ap nat_of (sym (remainder_below z)))
 
 -- ---- which coordinates have a sample
 -- i ≤ w−3 in natural numbers
 before_last : (side n : ℕ) → pos n ≤ℤ (pos side -ℤ pos 3) → n + 3 ≤ side
 before_last side n h = ⊎_elim
-    (λ (g : 3 ≤ side). let e = of-ℤ (rw (pos-minus side 3, sub-pos side 3 g) at h) in omega arith)
-    (λ (g : side < 3). absurd (rw (pos-minus side 3, sub-neg side 3 g) at h).le)
-    (le-or-lt 3 side)
+    (λ (g : 3 ≤ side). let e = of_ℤ (rw (pos_minus side 3, sub_pos side 3 g) at h) in omega arith)
+    (λ (g : side < 3). absurd (rw (pos_minus side 3, sub_neg side 3 g) at h).le)
+    (le_or_lt 3 side)
 
 to_last : (side n : ℕ) → n + 3 ≤ side → pos n ≤ℤ (pos side -ℤ pos 3)
-to_last side n h = rw (pos-minus side 3, sub-pos side 3 (omega arith)) (to-ℤ (omega arith))
+to_last side n h = rw (pos_minus side 3, sub_pos side 3 (omega arith)) (to_ℤ (omega arith))
 
 -- a pixel that is inside has one before it and two after it, and the other way round
-pub inside-surrounded : (side : ℕ) (i : ℤ) → Inside side i → Surrounded side (nat_of i)
-inside-surrounded side (pos n) h = record { before = of-ℤ h.0; after = before_last side n h.1 }
-inside-surrounded side (negsuc n) h = absurd h.0.le
+pub inside_surrounded : (side : ℕ) (i : ℤ) → Inside side i → Surrounded side (nat_of i)
+inside_surrounded side (pos n) h = record { before = of_ℤ h.0; after = before_last side n h.1 }
+inside_surrounded side (negsuc n) h = absurd h.0.le
 
-surrounded-inside : (side : ℕ) (i : ℤ) → Surrounded side (nat_of i) → Inside side i
-surrounded-inside side (pos n) s = (to-ℤ s.before, to_last side n s.after)
-surrounded-inside side (negsuc n) s = absurd (let one = s.before in let no : ⊥ = omega arith in no)
+surrounded_inside : (side : ℕ) (i : ℤ) → Surrounded side (nat_of i) → Inside side i
+surrounded_inside side (pos n) s = (to_ℤ s.before, to_last side n s.after)
+surrounded_inside side (negsuc n) s = absurd (let one = s.before in let no : ⊥ = omega arith in no)
 
 -- the code's last test, past the first two, is whether the pixel lies past the last that has a sample
 pub tested : (side i last : ℕ) → 1 ≤ i → last + 3 ≡ side → Unless (Surrounded side i) (leb i last ≡ false) (leb i last ≡ true)
 tested side i last one is = ⊎_elim
     (λ (h : i ≤ last). goes_on (record { before = one; after = omega arith }) (le-leb i last h))
     (λ (h : last < i). stops (λ s. omega (arith, s.after)) (lt-leb i last h))
-    (le-or-lt i last)
+    (le_or_lt i last)
 
 -- ---- a coordinate as the code takes it apart
 -- the natural remainder is the definition's, but of a negative number
-remainder-natural : (z : ℤ) → 1 ≤ nat_of (shr_z z 16) → nat_of (z -ℤ pos 16 *ℤ shr_z z 16) ≡ nat_of z % 16
-remainder-natural (pos n) some = ap nat_of (remainder_of n)
-remainder-natural (negsuc n) some = absurd (let no : ⊥ = omega arith in no)
+remainder_natural : (z : ℤ) → 1 ≤ nat_of (shr_z z 16) → nat_of (z -ℤ pos 16 *ℤ shr_z z 16) ≡ nat_of z % 16
+remainder_natural (pos n) some = ap nat_of (remainder_of n)
+remainder_natural (negsuc n) some = absurd (let no : ⊥ = omega arith in no)
 
 module _ (x : Sixteenths) (c : Coordinate) (at : Located x c) where
   pub is-pixel : c.pixel ≡ nat_of (pixel x)
-  is-pixel = at.pixel ∙ sym (pixel-natural x.0)
+  is-pixel = at.pixel ∙ sym (pixel_natural x.0)
 
   module _ (side : ℕ) where
     -- where its pixel has not one before it and two after it, it is not inside
     pub outside : (¬ Surrounded side c.pixel) → ¬ Inside side (pixel x)
-    outside not-surrounded h = not-surrounded (rw is-pixel (inside-surrounded side (pixel x) h))
+    outside not-surrounded h = not-surrounded (rw is-pixel (inside_surrounded side (pixel x) h))
 
     -- where it has, it is, and the remainder is the definition's
     module _ (s : Surrounded side c.pixel) where
@@ -113,7 +113,7 @@ module _ (x : Sixteenths) (c : Coordinate) (at : Located x c) where
       as-defined = rw is-pixel at s
 
       pub is-inside : Inside side (pixel x)
-      is-inside = surrounded-inside side (pixel x) as-defined
+      is-inside = surrounded_inside side (pixel x) as-defined
 
       pub is-remainder : c.remainder ≡ remainder x
-      is-remainder = at.remainder ∙ sym (remainder-natural x.0 as-defined.before)
+      is-remainder = at.remainder ∙ sym (remainder_natural x.0 as-defined.before)

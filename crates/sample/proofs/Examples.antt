@@ -12,12 +12,12 @@ use lib.ListN.{length}
 use lib.IntN.{ℤ, pos, negsuc, neg_ℤ, ◌-ℤ◌}
 use lib.Signed.{◌≤ℤ◌, le_z}
 use Rattle.arithmetic.specs.Sums.{sumℤ}
-use Rattle.arithmetic.proofs.Computed.{when, unless, EveryRow, every-row}
+use Rattle.arithmetic.proofs.Computed.{when, unless, EveryRow, every_row}
 use Rattle.picture.specs.Picture.{Side}
 use Rattle.units.specs.Units.{sixteenths}
 use Rattle.sample.specs.declared.Sampled.{Sampled}
-use Rattle.sample.specs.Cubic.{weight, sampleOf, pixel, Inside, sampleAt, sampled, SampleIs}
-use Rattle.sample.proofs.Outcomes.{one-sample}
+use Rattle.sample.specs.Cubic.{weight, sample_of, pixel, Inside, sample_at, sampled, SampleIs}
+use Rattle.sample.proofs.Outcomes.{one_sample}
 
 -- ---- a row of the table: a picture, a place, and what comes back
 pub record Row : Type 0 where
@@ -63,7 +63,7 @@ permitted l w h x y n v =
     unless (Dec.and (side w) (side h)) (back n v 1 (pos 0))
     (unless (ℕ_discrete (length l) (w * h)) (back n v 2 (pos 0))
     (unless (Dec.and (inside w (pixel (sixteenths x))) (inside h (pixel (sixteenths y)))) (back n v 13 (pos 0))
-    (back n v 0 (sampleAt l w (sixteenths x) (sixteenths y)))))
+    (back n v 0 (sample_at l w (sixteenths x) (sixteenths y)))))
 
 -- its place in its picture has the row's number and value, and no other
 abbrev pub Holds : Row → Type 0
@@ -72,10 +72,10 @@ Holds r =
     → s ≡ sampled r.number r.value
 
 unfoldable pub holds : (r : Row) → Option (Holds r)
-unfolding dec_le ℕ_discrete Dec.and when unless ordered same side inside back permitted sampleOf sumℤ weight
+unfolding dec_le ℕ_discrete Dec.and when unless ordered same side inside back permitted sample_of sumℤ weight
 holds r =
     map
-    (λ p s is. one-sample r.levels r.width r.height (sixteenths r.x) (sixteenths r.y) s
+    (λ p s is. one_sample r.levels r.width r.height (sixteenths r.x) (sixteenths r.y) s
     (sampled r.number r.value) is p)
     (permitted r.levels r.width r.height r.x r.y r.number r.value)
 
@@ -118,5 +118,5 @@ table =
     ∷ []
 
 pub worked : EveryRow Holds table
-unfolding holds every-row
-worked = get (every-row Holds holds table) tt
+unfolding holds every_row
+worked = get (every_row Holds holds table) tt

@@ -11,41 +11,41 @@ use Rattle.answers.proofs.Refusals.{alike, together}
 use Rattle.units.specs.declared.Sixteenths.{Sixteenths}
 use Rattle.sample.specs.declared.Sampled.{Sampled}
 use Rattle.sample.specs.declared.Coordinate.{Coordinate}
-use Rattle.sample.specs.Cubic.{sampleOf, pixel, remainder, sampleAt, refused, SampleIs}
+use Rattle.sample.specs.Cubic.{sample_of, pixel, remainder, sample_at, refused, SampleIs}
 use Rattle.sample.specs.inside.Asked.{Surrounded, Located}
-use Rattle.sample.proofs.Coordinates.{inside-surrounded, is-pixel, is-remainder}
+use Rattle.sample.proofs.Coordinates.{inside_surrounded, is-pixel, is-remainder}
 
 -- the sum over the 4×4 levels around two coordinates as the code takes them apart is the sample there
-pub is-sample : (levels : List ℕ) {w h : ℕ} (x y : Sixteenths) (column row : Coordinate) {z : ℤ} → Located x column → Located y row
+pub is_sample : (levels : List ℕ) {w h : ℕ} (x y : Sixteenths) (column row : Coordinate) {z : ℤ} → Located x column → Located y row
     → Surrounded w column.pixel → Surrounded h row.pixel
-    → z ≡ sampleOf levels w column.pixel row.pixel column.remainder row.remainder → z ≡ sampleAt levels w x y
-is-sample levels {w} {h} x y column row at_x at_y in-x in-y is =
+    → z ≡ sample_of levels w column.pixel row.pixel column.remainder row.remainder → z ≡ sample_at levels w x y
+is_sample levels {w} {h} x y column row at_x at_y in-x in-y is =
     rw (is-pixel x column at_x, is-remainder x column at_x w in-x, is-pixel y row at_y, is-remainder y row at_y h in-y) at is
 
 -- any two outcomes that the promise permits are equal
-pub one-sample : (levels : List ℕ) (w h : ℕ) (x y : Sixteenths) (r r' : Sampled)
+pub one_sample : (levels : List ℕ) (w h : ℕ) (x y : Sixteenths) (r r' : Sampled)
     → SampleIs levels w h x y r → SampleIs levels w h x y r' → r ≡ r'
-one-sample levels w h x y r r' = together alike (together alike (together alike alike))
+one_sample levels w h x y r r' = together alike (together alike (together alike alike))
 
 -- what a sample rests on: the 4×4 levels are in the picture, and the value is the definition's
 pub record Done (levels : List ℕ) (w h : ℕ) (x y : Sixteenths) (value : ℤ) : Type 0 where
   pub column : Surrounded w (nat_of (pixel x))
   pub row : Surrounded h (nat_of (pixel y))
-  pub is : value ≡ sampleAt levels w x y
+  pub is : value ≡ sample_at levels w x y
 
 -- a refused call does not answer 0
-sample-refused : {n : ℕ} {r : Sampled} → 1 ≤ n → r ≡ refused n → ¬ (r.number ≡ 0)
-sample-refused some is done = let e = ap (λ (s : Sampled). s.number) is in omega arith
+sample_refused : {n : ℕ} {r : Sampled} → 1 ≤ n → r ≡ refused n → ¬ (r.number ≡ 0)
+sample_refused some is done = let e = ap (λ (s : Sampled). s.number) is in omega arith
 
 -- where the number is 0
-pub when-done : (levels : List ℕ) (w h : ℕ) (x y : Sixteenths) (r : Sampled) → r.number ≡ 0 → SampleIs levels w h x y r
+pub when_done : (levels : List ℕ) (w h : ℕ) (x y : Sixteenths) (r : Sampled) → r.number ≡ 0 → SampleIs levels w h x y r
     → Done levels w h x y r.value
-when-done levels w h x y r z (inl a) = absurd (sample-refused (lit≤ tt) a.1 z)
-when-done levels w h x y r z (inr (s, inl a)) = absurd (sample-refused (lit≤ tt) a.1 z)
-when-done levels w h x y r z (inr (s, inr (l, inl a))) = absurd (sample-refused (lit≤ tt) a.1 z)
-when-done levels w h x y r z (inr (s, inr (l, inr (i, e)))) =
+when_done levels w h x y r z (inl a) = absurd (sample_refused (lit≤ tt) a.1 z)
+when_done levels w h x y r z (inr (s, inl a)) = absurd (sample_refused (lit≤ tt) a.1 z)
+when_done levels w h x y r z (inr (s, inr (l, inl a))) = absurd (sample_refused (lit≤ tt) a.1 z)
+when_done levels w h x y r z (inr (s, inr (l, inr (i, e)))) =
     record {
-      column = inside-surrounded w (pixel x) i.0;
-      row = inside-surrounded h (pixel y) i.1;
+      column = inside_surrounded w (pixel x) i.0;
+      row = inside_surrounded h (pixel y) i.1;
       is = ap (λ (s : Sampled). s.value) e;
     }

@@ -11,59 +11,59 @@ use lib.Signed.{◌≤ℤ◌}
 use Rattle.arithmetic.specs.Signed.{nat_of}
 use Rattle.arithmetic.specs.Lists.{AtMost}
 use Rattle.arithmetic.specs.Sums.{sumℤ}
-use Rattle.arithmetic.proofs.SignedSums.{sumℤ-same, sumℤ-by}
+use Rattle.arithmetic.proofs.SignedSums.{sumℤ_same, sumℤ_by}
 use Rattle.arithmetic.proofs.Ranges.{of_natural, widened, in_order}
 use Rattle.units.specs.declared.Sixteenths.{Sixteenths}
 use Rattle.sample.specs.declared.Sampled.{Sampled}
-use Rattle.sample.specs.Cubic.{weight, sampleOf, pixel, remainder, refused, SampleIs}
-use Rattle.sample.specs.inside.Asked.{Surrounded, weighted, levelFrom, rowSum, rowStart, rowFrom}
-use Rattle.sample.proofs.Weights.{weights-add}
+use Rattle.sample.specs.Cubic.{weight, sample_of, pixel, remainder, refused, SampleIs}
+use Rattle.sample.specs.inside.Asked.{Surrounded, weighted, level_from, row_sum, row_start, row_from}
+use Rattle.sample.proofs.Weights.{weights_add}
 use Rattle.sample.proofs.Reach.{SampleRange, all-range}
 use Rattle.sample.proofs.Rows.{by_rows, four-in}
 use Rattle.sample.proofs.Coordinates.{place_is}
-use Rattle.sample.proofs.Outcomes.{when-done}
+use Rattle.sample.proofs.Outcomes.{when_done}
 
 -- ---- a picture of one level
 module _ (levels : List ℕ) (w h i j across down v : ℕ) (column : Surrounded w i) (row : Surrounded h j)
     (same : (p : ℕ) → p < w * h → get_or levels p 0 ≡ v) where
   -- each of the 4×4 levels is in the picture, and so is that level
-  level-is : (r t : ℕ) → r < 4 → t < 4 → get_or levels (rowStart w i j r + t) 0 ≡ v
-  level-is r t in-r in-t = same (rowStart w i j r + t) (omega (arith, four-in column row r in-r))
+  level-is : (r t : ℕ) → r < 4 → t < 4 → get_or levels (row_start w i j r + t) 0 ≡ v
+  level-is r t in-r in-t = same (row_start w i j r + t) (omega (arith, four-in column row r in-r))
 
   -- the weights add to 8,192 across, and so each row adds to 8,192 times the level
-  row_is : (r : ℕ) → r < 4 → rowSum levels (rowStart w i j r) across ≡ pos (8192 * v)
-  unfolding rowSum
+  row_is : (r : ℕ) → r < 4 → row_sum levels (row_start w i j r) across ≡ pos (8192 * v)
+  unfolding row_sum
   row_is r in-r =
-      sumℤ-same 4 (weighted across (levelFrom levels (rowStart w i j r))) (λ t. weight across t *ℤ pos v)
+      sumℤ_same 4 (weighted across (level_from levels (row_start w i j r))) (λ t. weight across t *ℤ pos v)
       (λ t in-t. ap (λ (l : ℕ). weight across t *ℤ pos l) (level-is r t in-r in-t))
-      ∙ sumℤ-by (pos v) 4 (weight across) ∙ ap (λ (z : ℤ). z *ℤ pos v) (weights-add across)
+      ∙ sumℤ_by (pos v) 4 (weight across) ∙ ap (λ (z : ℤ). z *ℤ pos v) (weights_add across)
 
   -- and down
-  one-level : sampleOf levels w i j across down ≡ pos (67108864 * v)
+  one-level : sample_of levels w i j across down ≡ pos (67108864 * v)
   one-level =
       by_rows levels w i j across down
-      ∙ sumℤ-same 4 (weighted down (rowFrom levels w i j across)) (λ r. weight down r *ℤ pos (8192 * v))
+      ∙ sumℤ_same 4 (weighted down (row_from levels w i j across)) (λ r. weight down r *ℤ pos (8192 * v))
       (λ r in-r. ap (λ (z : ℤ). weight down r *ℤ z) (row_is r in-r))
-      ∙ sumℤ-by (pos (8192 * v)) 4 (weight down) ∙ ap (λ (z : ℤ). z *ℤ pos (8192 * v)) (weights-add down) ∙ ap pos (omega arith)
+      ∙ sumℤ_by (pos (8192 * v)) 4 (weight down) ∙ ap (λ (z : ℤ). z *ℤ pos (8192 * v)) (weights_add down) ∙ ap pos (omega arith)
 
 -- ---- a place on a pixel
 -- a sum of which only the second number is not 0
-only-second : (f : ℕ → ℤ) → f 0 ≡ pos 0 → f 2 ≡ pos 0 → f 3 ≡ pos 0 → sumℤ 4 f ≡ f 1
+only_second : (f : ℕ → ℤ) → f 0 ≡ pos 0 → f 2 ≡ pos 0 → f 3 ≡ pos 0 → sumℤ 4 f ≡ f 1
 unfolding sumℤ
-only-second f a b c = rw (a, b, c, +ℤ_idl (f 1), +ℤ_idr (f 1), +ℤ_idr (f 1))
+only_second f a b c = rw (a, b, c, +ℤ_idl (f 1), +ℤ_idr (f 1), +ℤ_idr (f 1))
 
 -- the weights of remainder 0 are 0, 8,192, 0 and 0
 at_zero : (z : ℕ → ℤ) → sumℤ 4 (λ t. weight 0 t *ℤ z t) ≡ pos 8192 *ℤ z 1
 unfolding weight
-at_zero z = only-second (λ t. weight 0 t *ℤ z t) (zero-*ℤ (z 0)) (zero-*ℤ (z 2)) (zero-*ℤ (z 3))
+at_zero z = only_second (λ t. weight 0 t *ℤ z t) (zero-*ℤ (z 0)) (zero-*ℤ (z 2)) (zero-*ℤ (z 3))
 
 -- so that of the 4×4 levels one is left
-on-pixel : (levels : List ℕ) (w i j : ℕ) → 1 ≤ i → 1 ≤ j → sampleOf levels w i j 0 0 ≡ pos (67108864 * get_or levels (j * w + i) 0)
-unfolding rowSum
-on-pixel levels w i j left above =
+on_pixel : (levels : List ℕ) (w i j : ℕ) → 1 ≤ i → 1 ≤ j → sample_of levels w i j 0 0 ≡ pos (67108864 * get_or levels (j * w + i) 0)
+unfolding row_sum
+on_pixel levels w i j left above =
     by_rows levels w i j 0 0
-    ∙ at_zero (rowFrom levels w i j 0)
-    ∙ ap (λ (z : ℤ). pos 8192 *ℤ z) (at_zero (levelFrom levels (rowStart w i j 1)))
+    ∙ at_zero (row_from levels w i j 0)
+    ∙ ap (λ (z : ℤ). pos 8192 *ℤ z) (at_zero (level_from levels (row_start w i j 1)))
     ∙ (
     let row : j - 1 + 1 ≡ j = omega arith in
     let column : j * w + (i - 1) + 1 ≡ j * w + i = omega arith in
@@ -74,20 +74,20 @@ module _ (levels : List ℕ) (w h : ℕ) (x y : Sixteenths) (r : Sampled) (is : 
   -- the weights of each remainder add to 8,192, so a picture of one level samples to that level everywhere
   pub one-level-everywhere : (v : ℕ) → ((p : ℕ) → p < w * h → get_or levels p 0 ≡ v) → r.number ≡ 0 → r.value ≡ pos (67108864 * v)
   one-level-everywhere v same done =
-      let d = when-done levels w h x y r done is in
+      let d = when_done levels w h x y r done is in
       d.is ∙ one-level levels w h (nat_of (pixel x)) (nat_of (pixel y)) (remainder x) (remainder y) v d.column d.row same
 
   -- "At k = 0 both ways it is the pixel's own level, exactly."
   pub own-level : remainder x ≡ 0 → remainder y ≡ 0 → r.number ≡ 0
       → r.value ≡ pos (67108864 * get_or levels (nat_of (pixel y) * w + nat_of (pixel x)) 0)
   own-level across down done =
-      let d = when-done levels w h x y r done is in
-      d.is ∙ rw (across, down) (on-pixel levels w (nat_of (pixel x)) (nat_of (pixel y)) d.column.before d.row.before)
+      let d = when_done levels w h x y r done is in
+      d.is ∙ rw (across, down) (on_pixel levels w (nat_of (pixel x)) (nat_of (pixel y)) d.column.before d.row.before)
 
 -- a sample lies from −4,812,963,840 to 21,925,724,160, and the 0 of a refusal does too
-pub sample-range : (levels : List ℕ) (w h : ℕ) (x y : Sixteenths) (r : Sampled) → AtMost 255 levels → SampleIs levels w h x y r
+pub sample_range : (levels : List ℕ) (w h : ℕ) (x y : Sixteenths) (r : Sampled) → AtMost 255 levels → SampleIs levels w h x y r
     → (neg_ℤ (pos 4812963840) ≤ℤ r.value) × (r.value ≤ℤ pos 21925724160)
-sample-range levels w h x y r bytes is = in_order r.value (go is)
+sample_range levels w h x y r bytes is = in_order r.value (go is)
   where
     of-refusal : {n : ℕ} → r ≡ refused n → SampleRange r.value
     of-refusal e = rw e (widened (omega arith) (omega arith) (of_natural 0))

@@ -5,8 +5,8 @@ use native.Mathlib.Nat.{mul-le-mul}
 use native.Mathlib.Omega.{arith}
 use lib.IntN.{ℤ, pos, sub_ℕ}
 use Rattle.arithmetic.specs.Sums.{sum, sumℤ}
-use Rattle.arithmetic.proofs.Differences.{same-diff, pos-diff, pos-minus, less-plus, less-plus-less, minus_plus}
-use Rattle.arithmetic.proofs.SignedSums.{sum-diff}
+use Rattle.arithmetic.proofs.Differences.{same_diff, pos_diff, pos_minus, less_plus, less_plus_less, minus_plus}
+use Rattle.arithmetic.proofs.SignedSums.{sum_diff}
 use Rattle.sample.specs.Cubic.{weight}
 
 -- what the formula of pixel i−1+t adds, and what it takes away
@@ -25,10 +25,10 @@ taken k (suc (suc (suc t))) = 16 * (k * k)
 -- each weight is the one less the other
 pub weight_is : (k t : ℕ) → weight k t ≡ sub_ℕ (added k t) (taken k t)
 unfolding weight
-weight_is k zero = less-plus-less (256 * k) (32 * (k * k)) (k * k * k)
+weight_is k zero = less_plus_less (256 * k) (32 * (k * k)) (k * k * k)
 weight_is k (suc zero) = minus_plus 8192 (80 * (k * k)) (3 * (k * k * k))
-weight_is k (suc (suc zero)) = pos-minus (256 * k + 64 * (k * k)) (3 * (k * k * k))
-weight_is k (suc (suc (suc t))) = less-plus (16 * (k * k)) (k * k * k)
+weight_is k (suc (suc zero)) = pos_minus (256 * k + 64 * (k * k)) (3 * (k * k * k))
+weight_is k (suc (suc (suc t))) = less_plus (16 * (k * k)) (k * k * k)
 
 -- and so is what is computed for the pixel of the same number
 pub by_number : (k : ℕ) {t n : ℕ} {z : ℤ} → t ≡ n → z ≡ sub_ℕ (added k n) (taken k n) → z ≡ weight k t
@@ -41,9 +41,9 @@ powers {k} small =
     (mul-le-mul most most, mul-le-mul (mul-le-mul most most) most)
 
 -- the weights of each remainder add to 8,192, that is to 1
-pub weights-add : (k : ℕ) → sumℤ 4 (weight k) ≡ pos 8192
+pub weights_add : (k : ℕ) → sumℤ 4 (weight k) ≡ pos 8192
 unfolding sum
-weights-add k =
-    sum-diff 4 (weight k) (added k) (taken k) (weight_is k)
-    ∙ same-diff (sum 4 (added k)) (sum 4 (taken k)) 8192 0 (omega arith)
-    ∙ sym (pos-diff 8192)
+weights_add k =
+    sum_diff 4 (weight k) (added k) (taken k) (weight_is k)
+    ∙ same_diff (sum 4 (added k)) (sum 4 (taken k)) 8192 0 (omega arith)
+    ∙ sym (pos_diff 8192)

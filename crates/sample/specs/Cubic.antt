@@ -18,8 +18,8 @@ weight k (suc (suc (suc t))) = neg_ℤ (pos (16 * (k * k))) +ℤ pos (k * k * k)
 
 -- "A sample is the sum over 4×4 original levels of row weight times column weight, a signed number of 1/67,108,864 levels":
 -- over rows j−1 to j+2 and columns i−1 to i+2, where `across` is the remainder of the column and `down` that of the row.
-unfoldable pub sampleOf : List ℕ → ℕ → ℕ → ℕ → ℕ → ℕ → ℤ
-sampleOf levels w i j across down =
+unfoldable pub sample_of : List ℕ → ℕ → ℕ → ℕ → ℕ → ℕ → ℤ
+sample_of levels w i j across down =
     sumℤ 4 (λ r. sumℤ 4 (λ t. weight down r *ℤ weight across t *ℤ pos (get_or levels ((j - 1 + r) * w + (i - 1 + t)) 0)))
 
 -- "A place is x, y in sixteenths of a pixel: column i, row j and remainders k": x is 16·i + k, with k from 0 to 15. So i is
@@ -35,8 +35,8 @@ abbrev pub Inside : ℕ → ℤ → Type 0
 Inside side i = (pos 1 ≤ℤ i) × (i ≤ℤ (pos side -ℤ pos 3))
 
 -- the sample at a place that is inside
-abbrev pub sampleAt : List ℕ → ℕ → Sixteenths → Sixteenths → ℤ
-sampleAt levels w x y = sampleOf levels w (nat_of (pixel x)) (nat_of (pixel y)) (remainder x) (remainder y)
+abbrev pub sample_at : List ℕ → ℕ → Sixteenths → Sixteenths → ℤ
+sample_at levels w x y = sample_of levels w (nat_of (pixel x)) (nat_of (pixel y)) (remainder x) (remainder y)
 
 -- an answer by its two numbers
 abbrev pub sampled : ℕ → ℤ → Sampled
@@ -51,4 +51,4 @@ abbrev pub SampleIs : List ℕ → ℕ → ℕ → Sixteenths → Sixteenths →
 SampleIs levels w h x y r =
     Shaped (length levels) w h (λ n. r ≡ refused n)
     (Unless (Inside w (pixel x) × Inside h (pixel y)) (r ≡ refused 13)
-    (r ≡ sampled 0 (sampleAt levels w x y)))
+    (r ≡ sampled 0 (sample_at levels w x y)))

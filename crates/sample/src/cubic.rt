@@ -2,8 +2,8 @@
 // is the sum over 4×4 original levels of row weight times column weight").
 ghost use Rattle.std.specs.Prelude.{◌≡◌};
 ghost use Rattle.std.proofs.Math.IntN.{sub_ℕ};
-ghost use Rattle.sample.specs.Cubic.{weight as weightOf, sampleOf};
-ghost use Rattle.sample.specs.inside.Asked.{Around, Four, Weighed, Halves, rowSum};
+ghost use Rattle.sample.specs.Cubic.{weight as weight_of, sample_of};
+ghost use Rattle.sample.specs.inside.Asked.{Around, Four, Weighed, Halves, row_sum};
 
 use crate::Coordinate;
 
@@ -11,7 +11,7 @@ use crate::Coordinate;
 // The compiler unrolls both loops, and computes each of the eight weights once.
 pub(crate) fn around(levels: &[u8], width: usize, column: Coordinate, row: Coordinate) -> i64
     requires { Around levels.now width column row }
-    ensures { result ≡ sampleOf levels.now width column.pixel row.pixel column.remainder row.remainder }
+    ensures { result ≡ sample_of levels.now width column.pixel row.pixel column.remainder row.remainder }
 {
     let mut at = (row.pixel - 1) * width + (column.pixel - 1);
     let mut sum = 0i64;
@@ -27,7 +27,7 @@ pub(crate) fn around(levels: &[u8], width: usize, column: Coordinate, row: Coord
 // The sum of four levels of a row, from `at` on, each times the weight of its column.
 fn row_sum(levels: &[u8], at: usize, k: u64) -> i64
     requires { Four levels.now at k }
-    ensures { result ≡ rowSum levels.now at k }
+    ensures { result ≡ row_sum levels.now at k }
 {
     let mut sum = 0i64;
     let mut t = 0usize;
@@ -42,7 +42,7 @@ fn row_sum(levels: &[u8], at: usize, k: u64) -> i64
 // adds less what it takes away.
 fn weight(k: u64, t: usize) -> i64
     requires { Weighed k t }
-    ensures { result ≡ weightOf k t }
+    ensures { result ≡ weight_of k t }
 {
     let square = k * k;
     let cube = square * k;

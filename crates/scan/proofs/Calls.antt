@@ -9,26 +9,26 @@ use lib.ListN.{length, take, drop, set, length-append, length-take}
 use lib.Seq.{drop_at, drop-drop, drop-nil, take-nil}
 use Rattle.arithmetic.specs.Lists.{AtMost, joined}
 use Rattle.answers.proofs.Refusals.{goes_on}
-use Rattle.memory.specs.Memory.{row_at, width_of, heightOf, cameOf, rows_of, memory, zeros, Begun}
-use Rattle.memory.proofs.Places.{length-row-at, most-row-at}
-use Rattle.memory.proofs.Memories.{length-rows}
-use Rattle.scan.specs.Ring.{heldIn, later}
+use Rattle.memory.specs.Memory.{row_at, width_of, height_of, came_of, rows_of, memory, zeros, Begun}
+use Rattle.memory.proofs.Places.{length_row_at, most_row_at}
+use Rattle.memory.proofs.Memories.{length_rows}
+use Rattle.scan.specs.Ring.{held_in, later}
 use Rattle.scan.proofs.SixRows.{count_set}
-use Rattle.scan.specs.Held.{Held, passThreeRow, step, after, given, no_row}
-use Rattle.scan.specs.Scan.{scanned, atFront, due, rowsGiven, rowsHeld, RowsIs, endGiven, EndIs}
+use Rattle.scan.specs.Held.{Held, pass_three_row, step, after, given, no_row}
+use Rattle.scan.specs.Scan.{scanned, at_front, due, rows_given, rows_held, RowsIs, end_given, EndIs}
 use Rattle.scan.specs.inside.Steps.{Refused}
 use Rattle.scan.specs.inside.Asked.{long, Ready, Coming}
 use Rattle.scan.proofs.Shown.{long-there, long-before, long-past}
 use Rattle.scan.proofs.Turns.{length-pass-three, ready-next, held_next, length-next}
 
 -- a call that is refused
-pub refused-is : {n number rows : ℕ} {held output : List ℕ} → Refused n number rows
+pub refused_is : {n number rows : ℕ} {held output : List ℕ} → Refused n number rows
     → scanned number rows held output ≡ scanned n 0 held output
-refused-is {held = held} {output = output} e = λ i. scanned (e.number_is i) (e.no_rows i) held output
+refused_is {held = held} {output = output} e = λ i. scanned (e.number_is i) (e.no_rows i) held output
 
 -- the rows due, as the code counts them
-pub less-of : {a b x y : ℕ} → a ≡ x → b ≡ y → a - b ≡ x - y
-less-of e f = λ i. e i - f i
+pub less_of : {a b x y : ℕ} → a ≡ x → b ≡ y → a - b ≡ x - y
+less_of e f = λ i. e i - f i
 
 -- rows that fit: each of levels, and as long as the picture's row is
 abbrev pub Fitting : ℕ → ℕ → ℕ → (ℕ → List ℕ) → ℕ → Type 0
@@ -37,14 +37,14 @@ Fitting w h k f n = (i : ℕ) → i < n → (length (f i) ≡ long w h (k + i) 0
 -- ---- n rows more
 module _ (w h k : ℕ) (rows : List ℕ) (f : ℕ → List ℕ) (ready : Ready w h k rows) where
   abbrev start : Held
-  start = heldIn w h k rows
+  start = held_in w h k rows
 
   fewer : (n : ℕ) → Fitting w h k f (suc n) → Fitting w h k f n
   fewer n fit i h = fit i (omega arith)
 
   -- what the memory holds then
   pub so_far : (n : ℕ) → Fitting w h k f n → k + n ≤ 70000
-      → Ready w h (k + n) (later w h k rows f n) × (heldIn w h (k + n) (later w h k rows f n) ≡ after start f n)
+      → Ready w h (k + n) (later w h k rows f n) × (held_in w h (k + n) (later w h k rows f n) ≡ after start f n)
   unfolding later after
   so_far zero fit few = rw (add-zero k) (ready, refl)
   so_far (suc n) fit few =
@@ -74,9 +74,9 @@ module _ (w h k : ℕ) (rows : List ℕ) (f : ℕ → List ℕ) (ready : Ready w
       let less = length-given n (fewer n fit) (λ i p. inside i (omega arith)) (omega arith) in
       let before = so_far n (fewer n fit) (omega arith) in
       let more =
-      ap (λ (held : Held). length (passThreeRow held (f n))) (sym before.1)
+      ap (λ (held : Held). length (pass_three_row held (f n))) (sym before.1)
       ∙ length-pass-three w h (k + n) (later w h k rows f n) (f n) before.0 in
-      length-append (given start f n) (passThreeRow (after start f n) (f n)) ∙ elim (dec_le 3 (k + n)) [
+      length-append (given start f n) (pass_three_row (after start f n) (f n)) ∙ elim (dec_le 3 (k + n)) [
         | yes p ↦
             let l = long-there h (k + n) 3 w (p, omega (arith, inside n (omega arith))) in
             let d : due k (suc n) ≡ due k n + 1 = omega arith in
@@ -93,10 +93,10 @@ module _ (held : List ℕ) (begun : Begun held) where
   w = width_of held
 
   abbrev h : ℕ
-  h = heightOf held
+  h = height_of held
 
   abbrev k : ℕ
-  k = cameOf held
+  k = came_of held
 
   -- as the code lends them
   abbrev rows : List ℕ
@@ -108,7 +108,7 @@ module _ (held : List ℕ) (begun : Begun held) where
     width = begun.width;
     height = begun.height.1;
     few = omega arith;
-    room = rw (length-rows held begun.long) (let width = begun.width.1 in omega arith);
+    room = rw (length_rows held begun.long) (let width = begun.width.1 in omega arith);
     ranges = begun.ranges;
   }
 
@@ -118,18 +118,18 @@ module _ (held : List ℕ) (begun : Begun held) where
     abbrev n : ℕ
     n = length levels / w
 
-    pub levels-are : length levels ≡ n * w
-    levels-are = let e = div-add-mod' (length levels) w in omega (arith, e, whole)
+    pub levels_are : length levels ≡ n * w
+    levels_are = let e = div-add-mod' (length levels) w in omega (arith, e, whole)
 
     row-there : (i : ℕ) → i < n → long w h (k + i) 0 ≡ w
     row-there i p = long-there h (k + i) 0 w (zero-le, omega arith)
 
     pub rows_fit : Fitting w h k (row_at w levels) n
     rows_fit i p =
-        let inside : i * w + w ≤ length levels = omega (arith, levels-are, mul-le-mul_right w p, suc-mul i w) in
-        (length-row-at w i levels inside ∙ sym (row-there i p), most-row-at 255 w i levels bytes)
+        let inside : i * w + w ≤ length levels = omega (arith, levels_are, mul-le-mul_right w p, suc-mul i w) in
+        (length_row_at w i levels inside ∙ sym (row-there i p), most_row_at 255 w i levels bytes)
 
-    pub rows-due : length (given (heldIn w h k rows) (row_at w levels) n) ≡ due k n * w
+    pub rows-due : length (given (held_in w h k rows) (row_at w levels) n) ≡ due k n * w
     rows-due =
         let height = begun.height.1 in
         length-given w h k rows (row_at w levels) (is-ready few) n rows_fit (λ i p. omega arith) (omega arith)
@@ -137,14 +137,14 @@ module _ (held : List ℕ) (begun : Begun held) where
     pub is-coming : due k n * w ≤ length output → Coming w h k w n rows levels output
     is-coming room =
         let height = begun.height.1 in
-        record { few = omega arith; rows_are = row-there; levels-are = levels-are; room = rw rows-due room }
+        record { few = omega arith; rows_are = row-there; levels_are = levels_are; room = rw rows-due room }
 
     -- a call that is done
     pub rows-done : (rows' out : List ℕ) (r : ℕ) → due k n * w ≤ length output → r ≡ due k n
         → rows' ≡ later w h k rows (row_at w levels) n
-        → out ≡ atFront (given (heldIn w h k rows) (row_at w levels) n) output
+        → out ≡ at_front (given (held_in w h k rows) (row_at w levels) n) output
         → RowsIs held levels output (scanned 0 r (set (take 3 held ++ (rows' ++ drop 6144 (drop 3 held))) 2 (k + n)) out)
-    unfolding rowsGiven rowsHeld rows_of
+    unfolding rows_given rows_held rows_of
     rows-done rows' out r room is-r is-rows is-out =
         let long = begun.long in
         let left = count_set held (k + n) rows' (drop 6144 (drop 3 held)) (omega arith)
@@ -153,23 +153,23 @@ module _ (held : List ℕ) (begun : Begun held) where
         goes_on begun (goes_on whole (goes_on within (goes_on room (λ i. scanned 0 (is-r i) (left i) (is-out i)))))
 
 -- ---- the end: three rows that are not there
-no-row-at : (i : ℕ) → row_at 0 [] i ≡ []
+no_row_at : (i : ℕ) → row_at 0 [] i ≡ []
 unfolding row_at
-no-row-at i = ap (drop (i * 0)) (take-nil (i * 0 + 0)) ∙ drop-nil (i * 0)
+no_row_at i = ap (drop (i * 0)) (take-nil (i * 0 + 0)) ∙ drop-nil (i * 0)
 
 no_rows : row_at 0 [] ≡ no_row
 unfolding no_row
-no_rows = fun_ext no-row-at
+no_rows = fun_ext no_row_at
 
-module _ (held : List ℕ) (begun : Begun held) (last : cameOf held ≡ heightOf held) where
+module _ (held : List ℕ) (begun : Begun held) (last : came_of held ≡ height_of held) where
   abbrev v : ℕ
   v = width_of held
 
   abbrev g : ℕ
-  g = heightOf held
+  g = height_of held
 
   abbrev j : ℕ
-  j = cameOf held
+  j = came_of held
 
   abbrev six : List ℕ
   six = take (6147 - 3) (drop 3 held)
@@ -181,31 +181,31 @@ module _ (held : List ℕ) (begun : Begun held) (last : cameOf held ≡ heightOf
   end-ready = is-ready held begun (let height = begun.height.1 in omega (arith, height, last))
 
   end-fit : Fitting v g j (row_at 0 []) 3
-  end-fit i p = (ap length (no-row-at i) ∙ sym (past-last i), λ z. rw (no-row-at i) zero-le)
+  end-fit i p = (ap length (no_row_at i) ∙ sym (past-last i), λ z. rw (no_row_at i) zero-le)
 
-  end-due : length (given (heldIn v g j six) (row_at 0 []) 3) ≡ min 3 g * v
+  end-due : length (given (held_in v g j six) (row_at 0 []) 3) ≡ min 3 g * v
   end-due =
       let height = begun.height.1 in
       let d : due j 3 ≡ min 3 g = omega (arith, last) in
       length-given v g j six (row_at 0 []) end-ready 3 end-fit (λ i p. omega (arith, p, last)) (omega (arith, height, last))
       ∙ ap (λ (z : ℕ). z * v) d
 
-  pub end-long : length (endGiven held) ≡ min 3 g * v
-  unfolding endGiven rows_of
-  end-long = ap (λ (f : ℕ → List ℕ). length (given (heldIn v g j six) f 3)) (sym no_rows) ∙ end-due
+  pub end-long : length (end_given held) ≡ min 3 g * v
+  unfolding end_given rows_of
+  end-long = ap (λ (f : ℕ → List ℕ). length (given (held_in v g j six) f 3)) (sym no_rows) ∙ end-due
 
   module _ (output : List ℕ) (room : min 3 g * v ≤ length output) where
     pub end-coming : Coming v g j 0 3 six [] output
     end-coming =
         let height = begun.height.1 in
-        record { few = omega (arith, height, last); rows_are = λ i p. past-last i; levels-are = refl; room = rw end-due room }
+        record { few = omega (arith, height, last); rows_are = λ i p. past-last i; levels_are = refl; room = rw end-due room }
 
     -- a call that is done
     pub end-done : (rows' left out : List ℕ) (r : ℕ) → length rows' ≡ 6144 → r ≡ min 3 g
         → left ≡ memory v g (g + 3) (zeros 6144) (drop 6147 (take 3 held ++ (rows' ++ drop 6144 (drop 3 held))))
-        → out ≡ atFront (given (heldIn v g j six) (row_at 0 []) 3) output
+        → out ≡ at_front (given (held_in v g j six) (row_at 0 []) 3) output
         → EndIs held output (scanned 0 r left out)
-    unfolding endGiven rows_of
+    unfolding end_given rows_of
     end-done rows' left out r rows_long is-r is-left is-out =
         let long = begun.long in
         let front : length (take 3 held ++ rows') ≡ 6147 = simp (length-append, length-take) (omega (arith, rows_long, long)) in
@@ -214,5 +214,5 @@ module _ (held : List ℕ) (begun : Begun held) (last : cameOf held ≡ heightOf
         ∙ drop_at (take 3 held ++ rows') (drop 6144 (drop 3 held)) 6147 front
         ∙ drop-drop 6144 3 held in
         let left_is = is-left ∙ ap (memory v g (g + 3) (zeros 6144)) past in
-        let out-is = is-out ∙ ap (λ (f : ℕ → List ℕ). atFront (given (heldIn v g j six) f 3) output) no_rows in
-        goes_on begun (goes_on last (goes_on room (λ i. scanned 0 (is-r i) (left_is i) (out-is i))))
+        let out_is = is-out ∙ ap (λ (f : ℕ → List ℕ). at_front (given (held_in v g j six) f 3) output) no_rows in
+        goes_on begun (goes_on last (goes_on room (λ i. scanned 0 (is-r i) (left_is i) (out_is i))))

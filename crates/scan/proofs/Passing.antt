@@ -7,18 +7,18 @@ use lib.ListN.{length, take, drop}
 use lib.Seq.{take_at}
 use Rattle.arithmetic.specs.Lists.{AtMost}
 use Rattle.filter.specs.Row.{Beside}
-use Rattle.memory.specs.Memory.{twoOf}
-use Rattle.scan.specs.Ring.{lastTwo, heldIn, replaced, next}
-use Rattle.scan.proofs.SixRows.{length-two-of}
-use Rattle.scan.specs.Held.{Held, completed, passOneRow, passTwoRow, passThreeRow}
+use Rattle.memory.specs.Memory.{two_of}
+use Rattle.scan.specs.Ring.{last_two, held_in, replaced, next}
+use Rattle.scan.proofs.SixRows.{length_two_of}
+use Rattle.scan.specs.Held.{Held, completed, pass_one_row, pass_two_row, pass_three_row}
 use Rattle.scan.specs.inside.Asked.{long, Below, Ready}
 use Rattle.scan.proofs.Shown.{none-or-long}
 use Rattle.scan.proofs.Twos.{length-replaced}
 use Rattle.scan.proofs.Turns.{length-pass-one, length-pass-two, most-pass-one, most-pass-two}
 
 -- what was written to the front of x
-pub front-is : (n : ℕ) (x row rest : List ℕ) → x ≡ row ++ rest → length row ≡ n → take n x ≡ row
-front-is n x row rest e long = ap (take n) e ∙ take_at row rest n long
+pub front_is : (n : ℕ) (x row rest : List ℕ) → x ≡ row ++ rest → length row ≡ n → take n x ≡ row
+front_is n x row rest e long = ap (take n) e ∙ take_at row rest n long
 
 -- a row of levels that comes to six rows
 pub record Arriving (w h k : ℕ) (rows levels : List ℕ) : Type 0 where
@@ -28,76 +28,76 @@ pub record Arriving (w h k : ℕ) (rows levels : List ℕ) : Type 0 where
 
 module _ {w h k : ℕ} {rows levels : List ℕ} (arriving : Arriving w h k rows levels) where
   abbrev before : Held
-  before = heldIn w h k rows
+  before = held_in w h k rows
 
-  pub length-pass-one-row : length (passOneRow before levels) ≡ long w h k 1
+  pub length-pass-one-row : length (pass_one_row before levels) ≡ long w h k 1
   length-pass-one-row = length-pass-one w h k rows levels arriving.ready
 
-  pub length-pass-two-row : length (passTwoRow before levels) ≡ long w h k 2
+  pub length-pass-two-row : length (pass_two_row before levels) ≡ long w h k 2
   length-pass-two-row = length-pass-two w h k rows levels arriving.ready
 
   -- ---- what each pass asks for
   module _ (pass late : ℕ) (few : pass ≤ 2) (soon : late ≤ 3) (row : List ℕ) where
-    below : AtMost 1020 (twoOf w rows pass) → Beside w (length row) → AtMost 1020 row → (two part : List ℕ) → two ≡ twoOf w rows pass
+    below : AtMost 1020 (two_of w rows pass) → Beside w (length row) → AtMost 1020 row → (two part : List ℕ) → two ≡ two_of w rows pass
         → part ≡ row → Below w k late two part
     below small beside small_row two part e f = rw (e, f) (record {
       width = arriving.ready.width.1;
       few = arriving.ready.few;
       soon = soon;
-      room = length-two-of w pass rows arriving.ready.room few;
+      room = length_two_of w pass rows arriving.ready.room few;
       small = small;
       beside = beside;
       small_row = small_row;
     })
 
-  pub below-levels : (two part : List ℕ) → two ≡ twoOf w rows 0 → part ≡ levels → Below w k 1 two part
+  pub below-levels : (two part : List ℕ) → two ≡ two_of w rows 0 → part ≡ levels → Below w k 1 two part
   below-levels =
       below 0 1 (omega arith) (omega arith) levels
       (λ i. omega (arith, arriving.ready.ranges.levels i)) (rw arriving.long_as (none-or-long h k 0 w))
       (λ i. omega (arith, arriving.bytes i))
 
-  pub below-pass-one : (two part : List ℕ) → two ≡ twoOf w rows 1 → part ≡ passOneRow before levels → Below w k 2 two part
+  pub below-pass-one : (two part : List ℕ) → two ≡ two_of w rows 1 → part ≡ pass_one_row before levels → Below w k 2 two part
   below-pass-one =
-      below 1 2 (omega arith) (omega arith) (passOneRow before levels)
+      below 1 2 (omega arith) (omega arith) (pass_one_row before levels)
       (λ i. omega (arith, arriving.ready.ranges.halves i))
       (rw length-pass-one-row (none-or-long h k 1 w))
       (λ i. omega (arith, most-pass-one w h k rows levels arriving.ready arriving.bytes i))
 
-  pub below-pass-two : (two part : List ℕ) → two ≡ twoOf w rows 2 → part ≡ passTwoRow before levels → Below w k 3 two part
+  pub below-pass-two : (two part : List ℕ) → two ≡ two_of w rows 2 → part ≡ pass_two_row before levels → Below w k 3 two part
   below-pass-two =
-      below 2 3 (omega arith) (omega arith) (passTwoRow before levels)
+      below 2 3 (omega arith) (omega arith) (pass_two_row before levels)
       arriving.ready.ranges.quarters
       (rw length-pass-two-row (none-or-long h k 2 w))
       (most-pass-two w h k rows levels arriving.ready arriving.bytes)
 
   -- ---- what each pass gives
   module _ (two part x rest : List ℕ) where
-    pub pass-one-is-row : two ≡ twoOf w rows 0 → part ≡ levels → x ≡ completed (lastTwo w h k 1 two) part ++ rest
-        → x ≡ passOneRow before levels ++ rest
-    unfolding passOneRow heldIn
+    pub pass-one-is-row : two ≡ two_of w rows 0 → part ≡ levels → x ≡ completed (last_two w h k 1 two) part ++ rest
+        → x ≡ pass_one_row before levels ++ rest
+    unfolding pass_one_row held_in
     pass-one-is-row e f is = is ∙ rw (e, f)
 
-    pub pass-two-is-row : two ≡ twoOf w rows 1 → part ≡ passOneRow before levels → x ≡ completed (lastTwo w h k 2 two) part ++ rest
-        → x ≡ passTwoRow before levels ++ rest
-    unfolding passTwoRow heldIn
+    pub pass-two-is-row : two ≡ two_of w rows 1 → part ≡ pass_one_row before levels → x ≡ completed (last_two w h k 2 two) part ++ rest
+        → x ≡ pass_two_row before levels ++ rest
+    unfolding pass_two_row held_in
     pass-two-is-row e f is = is ∙ rw (e, f)
 
-    pub pass-three-is-row : two ≡ twoOf w rows 2 → part ≡ passTwoRow before levels → x ≡ completed (lastTwo w h k 3 two) part ++ rest
-        → x ≡ passThreeRow before levels ++ rest
-    unfolding passThreeRow heldIn
+    pub pass-three-is-row : two ≡ two_of w rows 2 → part ≡ pass_two_row before levels → x ≡ completed (last_two w h k 3 two) part ++ rest
+        → x ≡ pass_three_row before levels ++ rest
+    unfolding pass_three_row held_in
     pass-three-is-row e f is = is ∙ rw (e, f)
 
-  pub two-are : (pass : ℕ) (two part x row : List ℕ) → two ≡ twoOf w rows pass → part ≡ row → x ≡ replaced w k two part
-      → x ≡ replaced w k (twoOf w rows pass) row
-  two-are pass two part x row e f is = is ∙ rw (e, f)
+  pub two_are : (pass : ℕ) (two part x row : List ℕ) → two ≡ two_of w rows pass → part ≡ row → x ≡ replaced w k two part
+      → x ≡ replaced w k (two_of w rows pass) row
+  two_are pass two part x row e f is = is ∙ rw (e, f)
 
   pub length-two-are : (pass late : ℕ) → pass ≤ 2 → (x row : List ℕ) → length row ≡ long w h k late
-      → x ≡ replaced w k (twoOf w rows pass) row → length x ≡ w + w
-  length-two-are pass late few x row row-long is =
-      ap length is ∙ length-replaced w h k late (twoOf w rows pass) row (length-two-of w pass rows arriving.ready.room few) row-long
+      → x ≡ replaced w k (two_of w rows pass) row → length x ≡ w + w
+  length-two-are pass late few x row row_long is =
+      ap length is ∙ length-replaced w h k late (two_of w rows pass) row (length_two_of w pass rows arriving.ready.room few) row_long
 
-  pub rows_are : (x a b c : List ℕ) → x ≡ a ++ b ++ c ++ drop (6 * w) rows → a ≡ replaced w k (twoOf w rows 0) levels
-      → b ≡ replaced w k (twoOf w rows 1) (passOneRow before levels) → c ≡ replaced w k (twoOf w rows 2) (passTwoRow before levels)
+  pub rows_are : (x a b c : List ℕ) → x ≡ a ++ b ++ c ++ drop (6 * w) rows → a ≡ replaced w k (two_of w rows 0) levels
+      → b ≡ replaced w k (two_of w rows 1) (pass_one_row before levels) → c ≡ replaced w k (two_of w rows 2) (pass_two_row before levels)
       → x ≡ next w h k rows levels
   unfolding next
-  rows_are x a b c is a-is b-is c-is = is ∙ rw (a-is, b-is, c-is)
+  rows_are x a b c is a_is b_is c_is = is ∙ rw (a_is, b_is, c_is)

@@ -9,7 +9,7 @@ use borrow.Author.Tests.{lt-ltb, le-ltb, le-leb, lt-leb}
 use lib.ListN.{length, take, drop}
 use Rattle.arithmetic.specs.Lists.{AtMost}
 use Rattle.memory.specs.Memory.{row_at}
-use Rattle.memory.proofs.Places.{part-row}
+use Rattle.memory.proofs.Places.{part_row}
 use Rattle.scan.specs.Ring.{shown}
 use Rattle.scan.specs.inside.Asked.{long}
 
@@ -17,8 +17,8 @@ use Rattle.scan.specs.inside.Asked.{long}
 abbrev pub There : ℕ → ℕ → ℕ → Type 0
 There h k late = (late ≤ k) × (k - late < h)
 
-pub there-or-not : (h k late : ℕ) → There h k late ⊎ (¬ (There h k late))
-there-or-not h k late = elim (dec_le late k) [
+pub there_or_not : (h k late : ℕ) → There h k late ⊎ (¬ (There h k late))
+there_or_not h k late = elim (dec_le late k) [
   | yes p ↦ elim (dec_lt (k - late) h) [ yes q ↦ inl (p, q) | no q ↦ inr (λ t. q t.1) ]
   | no p ↦ inr (λ t. p t.0)
 ]
@@ -58,31 +58,31 @@ module _ (h k late : ℕ) where
 
   -- it has w numbers or none
   pub none-or-long : (w : ℕ) → (long w h k late ≡ 0) ⊎ (long w h k late ≡ w)
-  none-or-long w = elim (there-or-not h k late) [ inl t ↦ inr (long-there w t) | inr n ↦ inl (long-not w n) ]
+  none-or-long w = elim (there_or_not h k late) [ inl t ↦ inr (long-there w t) | inr n ↦ inl (long-not w n) ]
 
   pub long-most : (w : ℕ) → long w h k late ≤ w
   long-most w = elim (none-or-long w) [ inl e ↦ omega arith | inr e ↦ omega arith ]
 
   pub length-shown : (w : ℕ) (row : List ℕ) → length row ≡ w → length (shown h k late row) ≡ long w h k late
-  length-shown w row e = elim (there-or-not h k late) [
+  length-shown w row e = elim (there_or_not h k late) [
     | inl t ↦ rw (shown-there row t, long-there w t) e
     | inr n ↦ rw (shown-not row n, long-not w n)
   ]
 
   pub most-shown : (b : ℕ) (row : List ℕ) → AtMost b row → AtMost b (shown h k late row)
-  most-shown b row p i = elim (there-or-not h k late) [ inl t ↦ rw (shown-there row t) (p i) | inr n ↦ rw (shown-not row n) zero-le ]
+  most-shown b row p i = elim (there_or_not h k late) [ inl t ↦ rw (shown-there row t) (p i) | inr n ↦ rw (shown-not row n) zero-le ]
 
   -- the part of the memory that the code lends: row i of it, if it is there
   pub shown-part : (w i at n : ℕ) (l : List ℕ) → at ≡ i * w → n ≡ long w h k late
       → take (at + n - at) (drop at l) ≡ shown h k late (row_at w l i)
-  shown-part w i at n l e f = elim (there-or-not h k late) [
-    | inl t ↦ part-row w i at (at + n) l e (rw (f, long-there w t)) ∙ sym (shown-there (row_at w l i) t)
+  shown-part w i at n l e f = elim (there_or_not h k late) [
+    | inl t ↦ part_row w i at (at + n) l e (rw (f, long-there w t)) ∙ sym (shown-there (row_at w l i) t)
     | inr out ↦ let none : at + n - at ≡ 0 = omega (arith, f, long-not w out) in rw (none, shown-not (row_at w l i) out)
   ]
 
 -- one row later
-pub shown-next : (h k late : ℕ) (row : List ℕ) → shown h (k + 1) (late + 1) row ≡ shown h k late row
-shown-next h k late row = elim (there-or-not h k late) [
+pub shown_next : (h k late : ℕ) (row : List ℕ) → shown h (k + 1) (late + 1) row ≡ shown h k late row
+shown_next h k late row = elim (there_or_not h k late) [
   | inl t ↦ shown-there h (k + 1) (late + 1) row (omega arith, omega arith) ∙ sym (shown-there h k late row t)
   | inr n ↦ shown-not h (k + 1) (late + 1) row (λ t. n (omega arith, omega arith)) ∙ sym (shown-not h k late row n)
 ]

@@ -6,17 +6,17 @@ use native.Mathlib.Nat.{mul-le-mul_right}
 use native.Mathlib.Omega.{arith}
 use lib.ListN.{length, take, drop, set, length-append}
 use lib.Seq.{take_at, drop_at, drop-drop}
-use Rattle.memory.specs.Memory.{width_of, heightOf, memory, row_at, twoOf}
-use Rattle.memory.proofs.Places.{length-row-at, row-at-between, part-row}
+use Rattle.memory.specs.Memory.{width_of, height_of, memory, row_at, two_of}
+use Rattle.memory.proofs.Places.{length_row_at, row_at_between, part_row}
 
 -- ---- six rows, two by two
 -- each two lie within them
-two-inside : (w pass : ℕ) → pass ≤ 2 → pass * (w + w) + (w + w) ≤ 6 * w
-two-inside w pass few = omega (arith, mul-le-mul_right (w + w) few)
+two_inside : (w pass : ℕ) → pass ≤ 2 → pass * (w + w) + (w + w) ≤ 6 * w
+two_inside w pass few = omega (arith, mul-le-mul_right (w + w) few)
 
-pub length-two-of : (w pass : ℕ) (rows : List ℕ) → 6 * w ≤ length rows → pass ≤ 2 → length (twoOf w rows pass) ≡ w + w
-unfolding twoOf
-length-two-of w pass rows room few = length-row-at (w + w) pass rows (omega (arith, two-inside w pass few, room))
+pub length_two_of : (w pass : ℕ) (rows : List ℕ) → 6 * w ≤ length rows → pass ≤ 2 → length (two_of w rows pass) ≡ w + w
+unfolding two_of
+length_two_of w pass rows room few = length_row_at (w + w) pass rows (omega (arith, two_inside w pass few, room))
 
 -- the parts that are lent one after the other, each changed before the next is lent
 module _ (w : ℕ) (rows : List ℕ) where
@@ -27,10 +27,10 @@ module _ (w : ℕ) (rows : List ℕ) where
     behind-a : drop (w + w) once ≡ drop (w + w) rows
     behind-a = drop_at a (drop (w + w) rows) (w + w) long-a
 
-    pub second-two : take (w + w + (w + w) - (w + w)) (drop (w + w) once) ≡ twoOf w rows 1
-    unfolding twoOf
+    pub second-two : take (w + w + (w + w) - (w + w)) (drop (w + w) once) ≡ two_of w rows 1
+    unfolding two_of
     second-two =
-        ap (take (w + w + (w + w) - (w + w))) behind-a ∙ part-row (w + w) 1 (w + w) (w + w + (w + w)) rows (omega arith) (omega arith)
+        ap (take (w + w + (w + w) - (w + w))) behind-a ∙ part_row (w + w) 1 (w + w) (w + w + (w + w)) rows (omega arith) (omega arith)
 
     module _ (b : List ℕ) (long-b : length b ≡ w + w) where
       abbrev twice : List ℕ
@@ -49,11 +49,11 @@ module _ (w : ℕ) (rows : List ℕ) where
       behind-b : drop (w + w + (w + w)) twice ≡ drop (w + w + (w + w)) rows
       behind-b = ap (drop (w + w + (w + w))) both ∙ drop_at (a ++ b) (drop (w + w + (w + w)) rows) (w + w + (w + w)) long-ab
 
-      pub third-two : take (w + w + (w + w) + (w + w) - (w + w + (w + w))) (drop (w + w + (w + w)) twice) ≡ twoOf w rows 2
-      unfolding twoOf
+      pub third-two : take (w + w + (w + w) + (w + w) - (w + w + (w + w))) (drop (w + w + (w + w)) twice) ≡ two_of w rows 2
+      unfolding two_of
       third-two =
           ap (take (w + w + (w + w) + (w + w) - (w + w + (w + w)))) behind-b
-          ∙ part-row (w + w) 2 (w + w + (w + w)) (w + w + (w + w) + (w + w)) rows (omega arith) (omega arith)
+          ∙ part_row (w + w) 2 (w + w + (w + w)) (w + w + (w + w) + (w + w)) rows (omega arith) (omega arith)
 
       pub all_three : (c : List ℕ)
           → take (w + w + (w + w)) twice ++ (c ++ drop (w + w + (w + w) + (w + w) - (w + w + (w + w))) (drop (w + w + (w + w)) twice))
@@ -69,27 +69,27 @@ module _ (w : ℕ) (rows : List ℕ) where
 
 -- and the two by two of such six
 module _ (w : ℕ) (a b c rest : List ℕ) (long-a : length a ≡ w + w) (long-b : length b ≡ w + w) (long-c : length c ≡ w + w) where
-  pub two-first : twoOf w (a ++ b ++ c ++ rest) 0 ≡ a
-  unfolding twoOf
+  pub two-first : two_of w (a ++ b ++ c ++ rest) 0 ≡ a
+  unfolding two_of
   two-first =
       ap (λ (l : List ℕ). row_at (w + w) l 0) (append_assoc (a ++ b) c rest ∙ append_assoc a b (c ++ rest))
-      ∙ row-at-between (w + w) 0 [] a (b ++ (c ++ rest)) (omega arith) long-a
+      ∙ row_at_between (w + w) 0 [] a (b ++ (c ++ rest)) (omega arith) long-a
 
-  pub two-second : twoOf w (a ++ b ++ c ++ rest) 1 ≡ b
-  unfolding twoOf
+  pub two-second : two_of w (a ++ b ++ c ++ rest) 1 ≡ b
+  unfolding two_of
   two-second =
       ap (λ (l : List ℕ). row_at (w + w) l 1) (append_assoc (a ++ b) c rest)
-      ∙ row-at-between (w + w) 1 a b (c ++ rest) (omega arith) long-b
+      ∙ row_at_between (w + w) 1 a b (c ++ rest) (omega arith) long-b
 
-  pub two-third : twoOf w (a ++ b ++ c ++ rest) 2 ≡ c
-  unfolding twoOf
+  pub two-third : two_of w (a ++ b ++ c ++ rest) 2 ≡ c
+  unfolding two_of
   two-third =
       let long-ab : length (a ++ b) ≡ 2 * (w + w) = length-append a b ∙ omega (arith, long-a, long-b) in
-      row-at-between (w + w) 2 (a ++ b) c rest long-ab long-c
+      row_at_between (w + w) 2 (a ++ b) c rest long-ab long-c
 
 -- ---- the count of rows, set before rows that came back
 pub count_set : (held : List ℕ) (k : ℕ) (rows past : List ℕ) → 3 ≤ length held
-    → set (take 3 held ++ (rows ++ past)) 2 k ≡ memory (width_of held) (heightOf held) k rows past
+    → set (take 3 held ++ (rows ++ past)) 2 k ≡ memory (width_of held) (height_of held) k rows past
 unfolding memory
 count_set [] k rows past p = absurd (let z : ⊥ = omega arith in z)
 count_set (a ∷ []) k rows past p = absurd (let z : ⊥ = omega arith in z)
@@ -97,6 +97,6 @@ count_set (a ∷ b ∷ []) k rows past p = absurd (let z : ⊥ = omega arith in 
 count_set (a ∷ b ∷ c ∷ l) k rows past p = refl
 
 -- and set again
-pub count-again : (w h k c : ℕ) (rows past : List ℕ) → set (memory w h k rows past) 2 c ≡ memory w h c rows past
+pub count_again : (w h k c : ℕ) (rows past : List ℕ) → set (memory w h k rows past) 2 c ≡ memory w h c rows past
 unfolding memory
-count-again w h k c rows past = refl
+count_again w h k c rows past = refl

@@ -8,28 +8,28 @@ use native.Mathlib.Nat.{mul-le-mul_right}
 use native.Mathlib.Omega.{arith}
 use lib.ListN.{length, take, drop}
 use Rattle.arithmetic.specs.Lists.{AtMost, over}
-use Rattle.arithmetic.proofs.Lists.{no-elements}
+use Rattle.arithmetic.proofs.Lists.{no_elements}
 use Rattle.arithmetic.proofs.Writing.{length_over}
 use Rattle.filter.specs.Median.{row_of}
 use Rattle.filter.specs.Row.{Beside, RowOutcome, RowIs}
-use Rattle.filter.proofs.Blocks.{length-row}
-use Rattle.filter.proofs.Ranges.{most-row}
+use Rattle.filter.proofs.Blocks.{length_row}
+use Rattle.filter.proofs.Ranges.{most_row}
 use Rattle.filter.proofs.RowOutcomes.{RowFits, when-row-fits}
 use Rattle.memory.specs.Memory.{row_at}
-use Rattle.memory.proofs.Places.{length-row-at, most-row-at, most-over, row-at-same, row-at-other}
-use Rattle.scan.specs.Ring.{shown, lastTwo, replaced}
+use Rattle.memory.proofs.Places.{length_row_at, most_row_at, most_over, row-at-same, row-at-other}
+use Rattle.scan.specs.Ring.{shown, last_two, replaced}
 use Rattle.scan.specs.Held.{completed, followed}
 use Rattle.scan.specs.inside.Asked.{long, Below}
-use Rattle.scan.proofs.Shown.{there-or-not, long-there, long-not, none-or-long, long-most}
-use Rattle.scan.proofs.Shown.{shown-there, shown-not, length-shown, most-shown, shown-part, shown-next}
+use Rattle.scan.proofs.Shown.{there_or_not, long-there, long-not, none-or-long, long-most}
+use Rattle.scan.proofs.Shown.{shown-there, shown-not, length-shown, most-shown, shown-part, shown_next}
 
 -- either of two rows lies within them
 pub place_inside : (w i : ℕ) → i ≤ 1 → i * w + w ≤ w + w
 place_inside w i few = omega (arith, mul-le-mul_right w few)
 
 -- and a row that comes below them fits into the place of the older one
-pub place-fits : (w k late : ℕ) (two row : List ℕ) → Below w k late two row → k % 2 * w + length row ≤ length two
-place-fits w k late two row asked = omega (arith, place_inside w (k % 2) (omega arith), asked.room, row-short asked.beside)
+pub place_fits : (w k late : ℕ) (two row : List ℕ) → Below w k late two row → k % 2 * w + length row ≤ length two
+place_fits w k late two row asked = omega (arith, place_inside w (k % 2) (omega arith), asked.room, row-short asked.beside)
   where
     row-short : Beside w (length row) → length row ≤ w
     row-short (inl z) = omega arith
@@ -39,18 +39,18 @@ place-fits w k late two row asked = omega (arith, place_inside w (k % 2) (omega 
 module _ (w h k late : ℕ) (two row : List ℕ) where
   -- each of the two has w numbers
   half : length two ≡ w + w → (i : ℕ) → i ≤ 1 → length (row_at w two i) ≡ w
-  half room i few = length-row-at w i two (omega (arith, place_inside w i few, room))
+  half room i few = length_row_at w i two (omega (arith, place_inside w i few, room))
 
-  pub length-completed : length two ≡ w + w → length (completed (lastTwo w h k late two) row) ≡ long w h k late
-  unfolding completed lastTwo
-  length-completed room = length-row _ _ _ ∙ length-shown h k late w (row_at w two ((k + 1) % 2)) (half room ((k + 1) % 2) (omega arith))
+  pub length-completed : length two ≡ w + w → length (completed (last_two w h k late two) row) ≡ long w h k late
+  unfolding completed last_two
+  length-completed room = length_row _ _ _ ∙ length-shown h k late w (row_at w two ((k + 1) % 2)) (half room ((k + 1) % 2) (omega arith))
 
-  pub most-completed : (b : ℕ) → AtMost b two → AtMost b row → AtMost (b + b) (completed (lastTwo w h k late two) row)
-  unfolding completed lastTwo
+  pub most-completed : (b : ℕ) → AtMost b two → AtMost b row → AtMost (b + b) (completed (last_two w h k late two) row)
+  unfolding completed last_two
   most-completed b small small_row =
-      most-row b _ _ _
-      (most-shown h k (late + 1) b (row_at w two (k % 2)) (most-row-at b w (k % 2) two small))
-      (most-shown h k late b (row_at w two ((k + 1) % 2)) (most-row-at b w ((k + 1) % 2) two small))
+      most_row b _ _ _
+      (most-shown h k (late + 1) b (row_at w two (k % 2)) (most_row_at b w (k % 2) two small))
+      (most-shown h k late b (row_at w two ((k + 1) % 2)) (most_row_at b w ((k + 1) % 2) two small))
       small_row
 
 -- ---- as the code completes it: the two rows are read where they lie
@@ -65,19 +65,19 @@ module _ (w h k late : ℕ) (two row out : List ℕ) (asked : Below w k late two
   shown-long l i few = length-shown h k l w (row_at w two i) (half w h k late two row asked.room i few)
 
   -- where the newer one is not there, nothing is
-  pub none-completed : (n : ℕ) → n ≡ long w h k late → n ≡ 0 → out ≡ completed (lastTwo w h k late two) row ++ drop (long w h k late) out
+  pub none-completed : (n : ℕ) → n ≡ long w h k late → n ≡ 0 → out ≡ completed (last_two w h k late two) row ++ drop (long w h k late) out
   none-completed n e z =
       let none : long w h k late ≡ 0 = omega arith in
-      let empty = no-elements (completed (lastTwo w h k late two) row) (length-completed w h k late two row asked.room ∙ none) in
+      let empty = no_elements (completed (last_two w h k late two) row) (length-completed w h k late two row asked.room ∙ none) in
       rw (empty, none)
 
   fits : long w h k late ≢ 0 → long w h k late ≤ length out → RowFits older newer row out
   fits some room = record {
     beside = (beside-newer (length older) older-beside, beside-newer (length row) asked.beside);
-    long-output = rw newer-long room;
+    long_output = rw newer-long room;
     small = (
-      most-shown h k (late + 1) 1020 (row_at w two (k % 2)) (most-row-at 1020 w (k % 2) two asked.small),
-      most-shown h k late 1020 (row_at w two ((k + 1) % 2)) (most-row-at 1020 w ((k + 1) % 2) two asked.small),
+      most-shown h k (late + 1) 1020 (row_at w two (k % 2)) (most_row_at 1020 w (k % 2) two asked.small),
+      most-shown h k late 1020 (row_at w two ((k + 1) % 2)) (most_row_at 1020 w ((k + 1) % 2) two asked.small),
       asked.small_row,
     );
   }
@@ -98,8 +98,8 @@ module _ (w h k late : ℕ) (two row out : List ℕ) (asked : Below w k late two
   pub row-completed : (n m : ℕ) → n ≡ long w h k late → m ≡ long w h k (late + 1) → n ≢ 0 → long w h k late ≤ length out → (r : RowOutcome)
       → RowIs (take (k % 2 * w + m - k % 2 * w) (drop (k % 2 * w) two))
       (take ((k + 1) % 2 * w + n - (k + 1) % 2 * w) (drop ((k + 1) % 2 * w) two)) row out r
-      → r.output ≡ completed (lastTwo w h k late two) row ++ drop (long w h k late) out
-  unfolding completed lastTwo
+      → r.output ≡ completed (last_two w h k late two) row ++ drop (long w h k late) out
+  unfolding completed last_two
   row-completed n m e f some room r d =
       let upper = shown-part h k (late + 1) w (k % 2) (k % 2 * w) m two refl f in
       let lower = shown-part h k late w ((k + 1) % 2) ((k + 1) % 2 * w) n two refl e in
@@ -114,11 +114,11 @@ module _ (w h k late : ℕ) (two row : List ℕ) where
 
   pub most-replaced : (b : ℕ) → AtMost b two → AtMost b row → AtMost b (replaced w k two row)
   unfolding replaced
-  most-replaced b small small_row = most-over b (k % 2 * w) two row small small_row
+  most-replaced b small small_row = most_over b (k % 2 * w) two row small small_row
 
-  module _ (room : length two ≡ w + w) (row-long : length row ≡ long w h k late) where
+  module _ (room : length two ≡ w + w) (row_long : length row ≡ long w h k late) where
     few : length row ≤ w
-    few = rw row-long (long-most h k late w)
+    few = rw row_long (long-most h k late w)
 
     inside : k % 2 * w + w ≤ length two
     inside = omega (arith, place_inside w (k % 2) (omega arith), room)
@@ -131,23 +131,23 @@ module _ (w h k late : ℕ) (two row : List ℕ) where
     older-is : shown h (k + 1) (late + 1 + 1) (row_at w (over two (k % 2 * w) row) ((k + 1) % 2))
         ≡ shown h k (late + 1) (row_at w two ((k + 1) % 2))
     older-is =
-        shown-next h k (late + 1) (row_at w (over two (k % 2 * w) row) ((k + 1) % 2))
+        shown_next h k (late + 1) (row_at w (over two (k % 2 * w) row) ((k + 1) % 2))
         ∙ ap (shown h k (late + 1)) (row-at-other w (k % 2) two row few inside ((k + 1) % 2) (λ e. omega (arith, e)))
 
     -- and the one that came is the newer one
     in_place : shown h k late (row_at w (over two (k % 2 * w) row) (k % 2)) ≡ row
-    in_place = elim (there-or-not h k late) [
-      | inl t ↦ shown-there h k late _ t ∙ row-at-same w (k % 2) two row few inside (row-long ∙ long-there h k late w t)
-      | inr n ↦ shown-not h k late _ n ∙ sym (no-elements row (row-long ∙ long-not h k late w n))
+    in_place = elim (there_or_not h k late) [
+      | inl t ↦ shown-there h k late _ t ∙ row-at-same w (k % 2) two row few inside (row_long ∙ long-there h k late w t)
+      | inr n ↦ shown-not h k late _ n ∙ sym (no_elements row (row_long ∙ long-not h k late w n))
     ]
 
     newer-is : shown h (k + 1) (late + 1) (row_at w (over two (k % 2 * w) row) ((k + 1 + 1) % 2)) ≡ row
     newer-is =
         let again : (k + 1 + 1) % 2 ≡ k % 2 = omega arith in
         ap (λ (i : ℕ). shown h (k + 1) (late + 1) (row_at w (over two (k % 2 * w) row) i)) again
-        ∙ shown-next h k late (row_at w (over two (k % 2 * w) row) (k % 2))
+        ∙ shown_next h k late (row_at w (over two (k % 2 * w) row) (k % 2))
         ∙ in_place
 
-    pub two-next : lastTwo w h (k + 1) (late + 1) (replaced w k two row) ≡ followed (lastTwo w h k (late + 1) two) row
-    unfolding lastTwo replaced followed
+    pub two-next : last_two w h (k + 1) (late + 1) (replaced w k two row) ≡ followed (last_two w h k (late + 1) two) row
+    unfolding last_two replaced followed
     two-next = λ i. record { older = older-is i; newer = newer-is i }

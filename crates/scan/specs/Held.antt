@@ -30,21 +30,21 @@ nothing = record { levels = no_rows; halves = no_rows; quarters = no_rows }
 
 -- what a row r of levels completes: a row of pass one, with that a row of pass two, and with that a row of pass three, which so is
 -- the row three above r ("with the call that brings the third row below it")
-unfoldable pub passOneRow : Held → List ℕ → List ℕ
-passOneRow held r = completed held.levels r
+unfoldable pub pass_one_row : Held → List ℕ → List ℕ
+pass_one_row held r = completed held.levels r
 
-unfoldable pub passTwoRow : Held → List ℕ → List ℕ
-passTwoRow held r = completed held.halves (passOneRow held r)
+unfoldable pub pass_two_row : Held → List ℕ → List ℕ
+pass_two_row held r = completed held.halves (pass_one_row held r)
 
-unfoldable pub passThreeRow : Held → List ℕ → List ℕ
-passThreeRow held r = completed held.quarters (passTwoRow held r)
+unfoldable pub pass_three_row : Held → List ℕ → List ℕ
+pass_three_row held r = completed held.quarters (pass_two_row held r)
 
 -- what is held once r has come
 unfoldable pub step : Held → List ℕ → Held
 step held r = record {
   levels = followed held.levels r;
-  halves = followed held.halves (passOneRow held r);
-  quarters = followed held.quarters (passTwoRow held r);
+  halves = followed held.halves (pass_one_row held r);
+  quarters = followed held.quarters (pass_two_row held r);
 }
 
 -- what is held once n rows f 0, f 1, .. have come, and the rows of pass three that they complete, one after the other
@@ -53,7 +53,7 @@ after held f zero = held
 after held f (suc n) = step (after held f n) (f n)
 
 unfoldable pub given : Held → (ℕ → List ℕ) → ℕ → List ℕ
-given held f n = joined n (λ i. passThreeRow (after held f i) (f i))
+given held f n = joined n (λ i. pass_three_row (after held f i) (f i))
 
 -- no row, again and again
 unfoldable pub no_row : ℕ → List ℕ

@@ -3,8 +3,8 @@
 -- moved.
 use Rattle.std.specs.Prelude.{cond, List, [], ◌++◌, ℕ, zero, suc, ◌+◌, ◌-◌, ◌*◌, ◌%◌, leb, ltb, drop}
 use Rattle.arithmetic.specs.Lists.{over}
-use Rattle.memory.specs.Memory.{row_at, twoOf}
-use Rattle.scan.specs.Held.{Two, Held, passOneRow, passTwoRow}
+use Rattle.memory.specs.Memory.{row_at, two_of}
+use Rattle.scan.specs.Held.{Two, Held, pass_one_row, pass_two_row}
 
 -- ---- what they hold once k rows came
 -- a row, if row k − late is one of the picture's h; above the first and below the last there is none
@@ -12,18 +12,18 @@ unfoldable pub shown : ℕ → ℕ → ℕ → List ℕ → List ℕ
 shown h k late row = cond (leb late k) (cond (ltb (k - late) h) row []) []
 
 -- two rows of which the newer one is row k − late, and the older one the row above it
-unfoldable pub lastTwo : ℕ → ℕ → ℕ → ℕ → List ℕ → Two
-lastTwo w h k late two = record {
+unfoldable pub last_two : ℕ → ℕ → ℕ → ℕ → List ℕ → Two
+last_two w h k late two = record {
   older = shown h k (late + 1) (row_at w two (k % 2));
   newer = shown h k late (row_at w two ((k + 1) % 2));
 }
 
 -- a pass is one row behind the one before it: the last row that came is k − 1, and the last that pass two has is k − 3
-unfoldable pub heldIn : ℕ → ℕ → ℕ → List ℕ → Held
-heldIn w h k rows = record {
-  levels = lastTwo w h k 1 (twoOf w rows 0);
-  halves = lastTwo w h k 2 (twoOf w rows 1);
-  quarters = lastTwo w h k 3 (twoOf w rows 2);
+unfoldable pub held_in : ℕ → ℕ → ℕ → List ℕ → Held
+held_in w h k rows = record {
+  levels = last_two w h k 1 (two_of w rows 0);
+  halves = last_two w h k 2 (two_of w rows 1);
+  quarters = last_two w h k 3 (two_of w rows 2);
 }
 
 -- ---- what one row more does
@@ -34,9 +34,9 @@ replaced w k two r = over two (k % 2 * w) r
 -- the six rows, and what lies past them, once r has come, which is row k
 unfoldable pub next : ℕ → ℕ → ℕ → List ℕ → List ℕ → List ℕ
 next w h k rows r =
-    replaced w k (twoOf w rows 0) r
-    ++ replaced w k (twoOf w rows 1) (passOneRow (heldIn w h k rows) r)
-    ++ replaced w k (twoOf w rows 2) (passTwoRow (heldIn w h k rows) r)
+    replaced w k (two_of w rows 0) r
+    ++ replaced w k (two_of w rows 1) (pass_one_row (held_in w h k rows) r)
+    ++ replaced w k (two_of w rows 2) (pass_two_row (held_in w h k rows) r)
     ++ drop (6 * w) rows
 
 -- and once n rows f 0, f 1, .. have come after k

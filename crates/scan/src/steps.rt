@@ -3,7 +3,7 @@
 ghost use Rattle.std.specs.Prelude.{◌≡◌, ◌+◌, ◌≤◌, length};
 ghost use Rattle.arithmetic.specs.Lists.{over};
 ghost use Rattle.scan.specs.inside.Asked.{long};
-ghost use Rattle.scan.specs.inside.Steps.{Passing, completedIn, Passed, Taking, Taken, TakingAll, TakenAll};
+ghost use Rattle.scan.specs.inside.Steps.{Passing, completed_in, Passed, Taking, Taken, TakingAll, TakenAll};
 
 // n rows of `each` levels come: `each` is the width, or 0 for rows below the last, which are not there. What they
 // complete goes to the front of the output, one row after the other. The room for the rows on their way is
@@ -150,7 +150,7 @@ fn complete(
     out: &mut [u16],
 )
     requires { Passing width height k late two.now row.now out.old }
-    ensures { out.new ≡ completedIn width height k late two.now row.now out.old }
+    ensures { out.new ≡ completed_in width height k late two.now row.now out.old }
 {
     let n = long(width, height, k, late);
     if n == 0 {

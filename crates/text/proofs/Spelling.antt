@@ -11,8 +11,8 @@ pub spelled : (out : List ℕ) (n k : ℕ) → IsPrefixLen k out → IsDigitCoun
 spelled out n k counts fewest is = record { fewest = rw (sym counts.1) fewest; digits_are = rw (sym counts.1) is }
 
 -- a number below 10 has one digit
-pub one-digit : (n : ℕ) → n < 10 → Spelled n ((48 + n) ∷ [])
-one-digit n small = record { fewest = (le_refl 1, omega arith, λ more. omega arith); digits_are = digit }
+pub one_digit : (n : ℕ) → n < 10 → Spelled n ((48 + n) ∷ [])
+one_digit n small = record { fewest = (le_refl 1, omega arith, λ more. omega arith); digits_are = digit }
   where
     last : n % 10 ≡ n
     last = omega arith
@@ -21,8 +21,8 @@ one-digit n small = record { fewest = (le_refl 1, omega arith, λ more. omega ar
     digit = rw (last, lt-ltb n 10 small)
 
 -- a number of 64 bits has at most 20
-pub few-digits : (n k : ℕ) → n < 2 ^ 64 → IsDigitCount 10 1 n k → k ≤ 20
-few-digits n k small fewest = elim (dec_lt 20 k) [
+pub few_digits : (n k : ℕ) → n < 2 ^ 64 → IsDigitCount 10 1 n k → k ≤ 20
+few_digits n k small fewest = elim (dec_lt 20 k) [
   | no few ↦ omega arith
   | yes many ↦
       let least : 10 ^ (k - 1) ≤ n = fewest.2 (omega arith) in
@@ -43,22 +43,22 @@ not_more n k l a b = elim (dec_lt l k) [
       absurd (not-le_of_lt b.1 (le_trans large least))
 ]
 
-pub one-text : (n : ℕ) (a b : List ℕ) → Spelled n a → Spelled n b → a ≡ b
-one-text n a b p q =
+pub one_text : (n : ℕ) (a b : List ℕ) → Spelled n a → Spelled n b → a ≡ b
+one_text n a b p q =
     let most = not_more n (length a) (length b) p.fewest q.fewest in
     let least = not_more n (length b) (length a) q.fewest p.fewest in
     let same : length a ≡ length b = omega arith in
     p.digits_are ∙ ap (λ (k : ℕ). last_digits 10 k n) same ∙ sym q.digits_are
 
-pub one-signed-text : (v : ℤ) (a b : List ℕ) → SpelledSigned v a → SpelledSigned v b → a ≡ b
-one-signed-text (pos n) a b p q = one-text n a b p q
-one-signed-text (negsuc n) a b p q =
-    p.1.0 ∙ ap (λ (l : List ℕ). 45 ∷ l) (one-text (suc n) p.0 q.0 p.1.1 q.1.1) ∙ sym q.1.0
+pub one_signed_text : (v : ℤ) (a b : List ℕ) → SpelledSigned v a → SpelledSigned v b → a ≡ b
+one_signed_text (pos n) a b p q = one_text n a b p q
+one_signed_text (negsuc n) a b p q =
+    p.1.0 ∙ ap (λ (l : List ℕ). 45 ∷ l) (one_text (suc n) p.0 q.0 p.1.1 q.1.1) ∙ sym q.1.0
 
 -- ---- texts that one can read
 -- "1131", and "-5"
-pub reads-1131 : Spelled 1131 (49 ∷ 49 ∷ 51 ∷ 49 ∷ [])
-reads-1131 = record { fewest = (lit≤ tt, lit< tt, λ more. lit≤ tt); digits_are = refl }
+pub reads_1131 : Spelled 1131 (49 ∷ 49 ∷ 51 ∷ 49 ∷ [])
+reads_1131 = record { fewest = (lit≤ tt, lit< tt, λ more. lit≤ tt); digits_are = refl }
 
-pub reads-minus-5 : SpelledSigned (negsuc 4) (45 ∷ 53 ∷ [])
-reads-minus-5 = (53 ∷ [], (refl, record { fewest = (lit≤ tt, lit< tt, λ more. omega arith); digits_are = refl }))
+pub reads_minus_5 : SpelledSigned (negsuc 4) (45 ∷ 53 ∷ [])
+reads_minus_5 = (53 ∷ [], (refl, record { fewest = (lit≤ tt, lit< tt, λ more. omega arith); digits_are = refl }))

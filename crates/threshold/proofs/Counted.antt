@@ -11,24 +11,24 @@ use lib.Seq.{get_or-set_same, get_or-set_other}
 use borrow.Author.Tests.{eq-eqb, ne_eqb}
 use Rattle.arithmetic.specs.Lists.{AtMost}
 use Rattle.answers.proofs.Refusals.{goes_on}
-use Rattle.arithmetic.proofs.Lists.{most-equal}
-use Rattle.arithmetic.proofs.Sums.{sum-equal}
+use Rattle.arithmetic.proofs.Lists.{most_equal}
+use Rattle.arithmetic.proofs.Sums.{sum_equal}
 use Rattle.threshold.specs.Histogram.{count_of, Countable, Tally, tally, CountIs}
-use Rattle.threshold.specs.inside.Asked.{addedUpTo, Added}
-use Rattle.threshold.proofs.Histograms.{counts-none, counts-more, count-done}
-use Rattle.threshold.proofs.Outcomes.{one-count}
+use Rattle.threshold.specs.inside.Asked.{added_up_to, Added}
+use Rattle.threshold.proofs.Histograms.{counts-none, counts-more, count_done}
+use Rattle.threshold.proofs.Outcomes.{one_count}
 
 -- the counts of values that can be counted are what counting leaves, and nothing else is
 no_other : (values counts h : List ℕ) (r : Tally) → Countable values → Added values (length values) counts → length h ≡ 256
     → CountIs values h r → r ≡ tally 0 counts
 no_other values counts h r ok all places is =
-    one-count values h r (tally 0 counts) is (goes_on places (goes_on ok (count-done values counts counts ok all refl)))
+    one_count values h r (tally 0 counts) is (goes_on places (goes_on ok (count_done values counts counts ok all refl)))
 
 -- ---- equal values
 -- n values x add n at the level of x, and nothing elsewhere
-equal-added : (n x v : ℕ) → addedUpTo (replicate n x) n v ≡ n * cond (eqb (x / 8) v) 1 0
-unfolding addedUpTo
-equal-added n x v = sum-equal (cond (eqb (x / 8) v) 1 0) n _ (λ i h. rw (get_or-replicate n i x 0 h))
+equal_added : (n x v : ℕ) → added_up_to (replicate n x) n v ≡ n * cond (eqb (x / 8) v) 1 0
+unfolding added_up_to
+equal_added n x v = sum_equal (cond (eqb (x / 8) v) 1 0) n _ (λ i h. rw (get_or-replicate n i x 0 h))
 
 -- that is what a list of m zeros has in which place l is set to n
 one_place : (m n l v : ℕ) → l < m → v < m → count_of (set (replicate m 0) l n) v ≡ n * cond (eqb l v) 1 0
@@ -38,24 +38,24 @@ one_place m n l v in-it h = elim (ℕ_discrete v l) [
 ]
 
 -- 1 to 1,048,576 values x, at most 2,040: as many at the level of x, and nothing elsewhere
-pub all-equal : (n x : ℕ) → 1 ≤ n → n ≤ 1048576 → x ≤ 2040 → (h : List ℕ) (r : Tally) → length h ≡ 256 → CountIs (replicate n x) h r
+pub all_equal : (n x : ℕ) → 1 ≤ n → n ≤ 1048576 → x ≤ 2040 → (h : List ℕ) (r : Tally) → length h ≡ 256 → CountIs (replicate n x) h r
     → r ≡ tally 0 (set (replicate 256 0) (x / 8) n)
-all-equal n x some few small h r =
+all_equal n x some few small h r =
     no_other (replicate n x) (set (replicate 256 0) (x / 8) n) h r
     (record {
       some = rw (length-replicate n x) some;
       few = rw (length-replicate n x) few;
-      small = most-equal 2040 n x small;
+      small = most_equal 2040 n x small;
     })
     (rw (length-replicate n x)
     (record {
       places = length-set (replicate 256 0) (x / 8) n ∙ length-replicate {A = ℕ} 256 0;
-      counts-are = λ v b. one_place 256 n (x / 8) v (omega arith) b ∙ sym (equal-added n x v);
+      counts_are = λ v b. one_place 256 n (x / 8) v (omega arith) b ∙ sym (equal_added n x v);
     }))
 
 -- 256 values of 320 eighths: 256 at level 40
-pub all-forty : (h : List ℕ) (r : Tally) → length h ≡ 256 → CountIs (replicate 256 320) h r → r ≡ tally 0 (set (replicate 256 0) 40 256)
-all-forty = all-equal 256 320 (lit≤ tt) (lit≤ tt) (lit≤ tt)
+pub all_forty : (h : List ℕ) (r : Tally) → length h ≡ 256 → CountIs (replicate 256 320) h r → r ≡ tally 0 (set (replicate 256 0) 40 256)
+all_forty = all_equal 256 320 (lit≤ tt) (lit≤ tt) (lit≤ tt)
 
 -- ---- four values
 -- two of level 0, the first of level 1, and the greatest that can be counted
@@ -63,22 +63,22 @@ abbrev pub four : List ℕ
 four = 0 ∷ 7 ∷ 8 ∷ 2040 ∷ []
 
 -- each is at most 2,040, and there are four: they can be counted
-four-small : AtMost 2040 four
-four-small zero = lit≤ tt
-four-small (suc zero) = lit≤ tt
-four-small (suc (suc zero)) = lit≤ tt
-four-small (suc (suc (suc zero))) = lit≤ tt
-four-small (suc (suc (suc (suc k)))) = zero-le
+four_small : AtMost 2040 four
+four_small zero = lit≤ tt
+four_small (suc zero) = lit≤ tt
+four_small (suc (suc zero)) = lit≤ tt
+four_small (suc (suc (suc zero))) = lit≤ tt
+four_small (suc (suc (suc (suc k)))) = zero-le
 
-four-countable : Countable four
-four-countable = record { some = lit≤ tt; few = lit≤ tt; small = four-small }
+four_countable : Countable four
+four_countable = record { some = lit≤ tt; few = lit≤ tt; small = four_small }
 
 -- 0 and 7 eighths are at level 0, 8 at level 1, 2,040 at level 255
-pub four-values : (h : List ℕ) (r : Tally) → length h ≡ 256 → CountIs four h r
+pub four_values : (h : List ℕ) (r : Tally) → length h ≡ 256 → CountIs four h r
     → r ≡ tally 0 (set (set (set (replicate 256 0) 0 2) 1 1) 255 1)
-four-values h r =
-    no_other four _ h r four-countable
-    (counts-more four four-countable 3 _
-    (counts-more four four-countable 2 _
-    (counts-more four four-countable 1 _
-    (counts-more four four-countable 0 _ (counts-none four)))))
+four_values h r =
+    no_other four _ h r four_countable
+    (counts-more four four_countable 3 _
+    (counts-more four four_countable 2 _
+    (counts-more four four_countable 1 _
+    (counts-more four four_countable 0 _ (counts-none four)))))

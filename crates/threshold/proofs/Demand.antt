@@ -11,11 +11,11 @@ use lib.ListN.{length}
 use Rattle.arithmetic.specs.declared.Fraction.{Fraction}
 use Rattle.arithmetic.specs.Greatest.{Least}
 use Rattle.arithmetic.specs.Fractions.{Equal}
-use Rattle.arithmetic.proofs.Greatest.{one-least, least-found}
+use Rattle.arithmetic.proofs.Greatest.{one_least, least_found}
 use Rattle.threshold.specs.Histogram.{total}
 use Rattle.threshold.specs.TwoMeans.{start, round, Within, Rests, threshold, LiesBetween, Settled}
-use Rattle.threshold.proofs.Rounds.{same-threshold}
-use Rattle.threshold.proofs.Sequence.{round-within, threshold-within, rests-or-not, given_back, stays-above, stays-below}
+use Rattle.threshold.proofs.Rounds.{same_threshold}
+use Rattle.threshold.proofs.Sequence.{round-within, threshold-within, rests_or_not, given_back, stays-above, stays-below}
 use Rattle.threshold.proofs.Sequence.{comes-to-rest}
 
 -- threshold k at rest
@@ -30,14 +30,14 @@ module _ (m : ℕ) (h : List ℕ) (some : 0 < total h) where
     abbrev answer : Fraction
     answer = round h T
 
-    in-time : k ≤ 2 * length h - 1
-    in-time = let r = comes-to-rest h some m in omega (arith, first.least r.0 r.2, r.1)
+    in_time : k ≤ 2 * length h - 1
+    in_time = let r = comes-to-rest h some m in omega (arith, first.least r.0 r.2, r.1)
 
     within : Within h answer
     within = round-within h some T (threshold-within h some m k)
 
     midpoint : round h answer ≡ answer
-    midpoint = same-threshold h answer T within.proper (threshold-within h some m k).proper first.holds.still
+    midpoint = same_threshold h answer T within.proper (threshold-within h some m k).proper first.holds.still
 
     no_other : (R : Fraction) → Rests h R → LiesBetween (start m h) answer R → Equal R answer
     unfolding threshold
@@ -53,7 +53,7 @@ module _ (m : ℕ) (h : List ℕ) (some : 0 < total h) where
         record {
           first = first;
           answer = refl;
-          in-time = in-time;
+          in_time = in_time;
           rests = record { within = within; still = rw midpoint refl };
           midpoint = midpoint;
           no_other = no_other;
@@ -64,13 +64,13 @@ module _ (m : ℕ) (h : List ℕ) (some : 0 < total h) where
   pub demand : (k : ℕ) × (T : Fraction) × Settled m h k T
   demand =
       let r = comes-to-rest h some m in
-      let f = least-found (λ j. rests-or-not h (threshold m h j)) r.0 r.2 in
+      let f = least_found (λ j. rests_or_not h (threshold m h j)) r.0 r.2 in
       (f.0, round h (threshold m h f.0), settled f.0 f.1)
 
 module _ (m : ℕ) (h : List ℕ) (j k : ℕ) (T U : Fraction) (this : Settled m h j T) (that : Settled m h k U) where
   -- the demand leaves one answer
   pub one-rounds : j ≡ k
-  one-rounds = one-least this.first that.first
+  one-rounds = one_least this.first that.first
 
   pub one_answer : T ≡ U
   one_answer = this.answer ∙ ap (λ (i : ℕ). round h (threshold m h i)) one-rounds ∙ sym that.answer

@@ -11,25 +11,25 @@ use native.Mathlib.Omega.{arith}
 use lib.ListN.{length}
 use Rattle.arithmetic.specs.declared.Fraction.{Fraction}
 use Rattle.arithmetic.specs.Greatest.{Least}
-use Rattle.arithmetic.specs.Sums.{sum, sumOver}
+use Rattle.arithmetic.specs.Sums.{sum, sum_over}
 use Rattle.arithmetic.specs.Fractions.{fraction}
 use Rattle.arithmetic.proofs.Greatest.{not_yet}
-use Rattle.arithmetic.proofs.Fractions.{one-pair-or-not}
+use Rattle.arithmetic.proofs.Fractions.{one_pair_or_not}
 use Rattle.answers.proofs.Refusals.{goes_on}
-use Rattle.arithmetic.proofs.Computed.{when, EveryRow, every-row}
+use Rattle.arithmetic.proofs.Computed.{when, EveryRow, every_row}
 use Rattle.threshold.specs.declared.Threshold.{Threshold}
 use Rattle.threshold.specs.Histogram.{total}
 use Rattle.threshold.specs.TwoMeans.{level, start, round, Rests, threshold, Settled, answered, TwoMeansIs}
 use Rattle.threshold.specs.Worked.{histogram, Walk}
-use Rattle.threshold.proofs.Sequence.{within_or_not, rests-or-not}
+use Rattle.threshold.proofs.Sequence.{within_or_not, rests_or_not}
 use Rattle.threshold.proofs.Demand.{RestsAt, settled}
-use Rattle.threshold.proofs.Outcomes.{one-two-means}
+use Rattle.threshold.proofs.Outcomes.{one_two_means}
 
 -- ---- a walk
 -- whether these are its thresholds
 walks : (h : List ℕ) (T : Fraction) (l : List Fraction) (U : Fraction) → Dec (Walk h T l U)
-walks h T [] U = Dec.and (rests-or-not h T) (one-pair-or-not (round h T) U)
-walks h T (S ∷ l) U = Dec.and (Dec.not (rests-or-not h T)) (Dec.and (one-pair-or-not (round h T) S) (walks h S l U))
+walks h T [] U = Dec.and (rests_or_not h T) (one_pair_or_not (round h T) U)
+walks h T (S ∷ l) U = Dec.and (Dec.not (rests_or_not h T)) (Dec.and (one_pair_or_not (round h T) S) (walks h S l U))
 
 module _ (m : ℕ) (h : List ℕ) where
   -- a walk from threshold k on, where none before it rests, ends at the first that does
@@ -44,12 +44,12 @@ module _ (m : ℕ) (h : List ℕ) where
 -- ---- a row of the table: the counts as pairs of a level and how often, the start, the thresholds from it to rest, and the answer
 pub record Row : Type 0 where
   pub counts : List (ℕ × ℕ)
-  pub start-at : ℕ
-  pub on-the-way : List Fraction
+  pub start_at : ℕ
+  pub on_the_way : List Fraction
   pub answer : Threshold
 
 abbrev row : List (ℕ × ℕ) → ℕ → List Fraction → Threshold → Row
-row counts start l t = record { counts = counts; start-at = start; on-the-way = l; answer = t }
+row counts start l t = record { counts = counts; start_at = start; on_the_way = l; answer = t }
 
 -- The row holds of a histogram: from the start v the thresholds are those of the walk; and whatever the promise permits is t.
 abbrev pub Holds : List ℕ → ℕ → List Fraction → Threshold → Type 0
@@ -69,7 +69,7 @@ module _ (h : List ℕ) (v : ℕ) (l : List Fraction) (t : Threshold) where
       (Dec.and (ℕ_discrete (length h) 256) (Dec.and (Dec.not (ℕ_discrete (total h) 0)) (dec_le (total h) 1048576)))
       (Dec.and
       (Dec.and (ℕ_discrete t.number 0) (ℕ_discrete (length l) t.rounds))
-      (Dec.and (one-pair-or-not (start 128 h) (level v)) (walks h (level v) l t.value)))
+      (Dec.and (one_pair_or_not (start 128 h) (level v)) (walks h (level v) l t.value)))
 
   -- then the promise permits the answer
   pub permitted : Taken h → Stepped l t → start 128 h ≡ level v → Walk h (level v) l t.value → TwoMeansIs h t
@@ -83,19 +83,19 @@ module _ (h : List ℕ) (v : ℕ) (l : List Fraction) (t : Threshold) where
       (record { number = stepped.0; settled = subst (Settled 128 h t.rounds) f.1 reached })))
 
   unfoldable pub holds : Option (Holds h v l t)
-  unfolding dec_le ℕ_discrete Dec.and Dec.not when sum sumOver total start round within_or_not rests-or-not one-pair-or-not walks tests
+  unfolding dec_le ℕ_discrete Dec.and Dec.not when sum sum_over total start round within_or_not rests_or_not one_pair_or_not walks tests
   holds =
       map (λ p.
       let walk = p.1.1 in
-      (walk.0, (walk.1, λ u is. one-two-means h u t is (permitted p.0 p.1.0 walk.0 walk.1))))
+      (walk.0, (walk.1, λ u is. one_two_means h u t is (permitted p.0 p.1.0 walk.0 walk.1))))
       (when tests)
 
 -- the same of a row of the table
 abbrev pub RowHolds : Row → Type 0
-RowHolds r = Holds (histogram r.counts) r.start-at r.on-the-way r.answer
+RowHolds r = Holds (histogram r.counts) r.start_at r.on_the_way r.answer
 
-row-holds : (r : Row) → Option (RowHolds r)
-row-holds r = holds (histogram r.counts) r.start-at r.on-the-way r.answer
+row_holds : (r : Row) → Option (RowHolds r)
+row_holds r = holds (histogram r.counts) r.start_at r.on_the_way r.answer
 
 -- the histogram of document 01's picture of all 40, and two of docs/why-it-rests.md
 abbrev pub table : List Row
@@ -108,10 +108,10 @@ table =
     ∷ []
 
 pub worked : EveryRow RowHolds table
-unfolding holds row-holds every-row
-worked = get (every-row RowHolds row-holds table) tt
+unfolding holds row_holds every_row
+worked = get (every_row RowHolds row_holds table) tt
 
 -- ---- a threshold that rests, of which a histogram may have several
 unfoldable pub at_rest : (h : List ℕ) (T : Fraction) → Option (Rests h T)
-unfolding dec_le ℕ_discrete Dec.and when sum sumOver total round within_or_not rests-or-not
-at_rest h T = when (rests-or-not h T)
+unfolding dec_le ℕ_discrete Dec.and when sum sum_over total round within_or_not rests_or_not
+at_rest h T = when (rests_or_not h T)

@@ -14,42 +14,42 @@ use Rattle.threshold.specs.declared.Threshold.{Threshold}
 use Rattle.threshold.specs.Histogram.{Countable, Tally, tally, Counted, CountIs}
 use Rattle.threshold.specs.TwoMeans.{highest, threshold, answered, refused, Done, TwoMeansIs}
 use Rattle.threshold.proofs.Present.{highest-below}
-use Rattle.threshold.proofs.Tables.{denominator-small}
+use Rattle.threshold.proofs.Tables.{denominator_small}
 use Rattle.threshold.proofs.Demand.{one-rounds, one_answer}
 
 -- ---- counting
 -- two histograms of the same values are one
-pub one-histogram : (values : List ℕ) (a b : Tally) → Counted values a → Counted values b → a.histogram ≡ b.histogram
-one-histogram values a b p q =
+pub one_histogram : (values : List ℕ) (a b : Tally) → Counted values a → Counted values b → a.histogram ≡ b.histogram
+one_histogram values a b p q =
     ext_get_or 0 a.histogram b.histogram (alike p.places q.places)
     (λ v h. let here : v < 256 = omega (arith, p.places) in alike (p.counts v here) (q.counts v here))
 
 -- the answer is determined: two outcomes that the promise permits are one
-pub one-count : (values histogram : List ℕ) (a b : Tally) → CountIs values histogram a → CountIs values histogram b → a ≡ b
-one-count values histogram a b =
-    together alike (together alike (λ p q i. tally (alike p.number q.number i) (one-histogram values a b p q i)))
+pub one_count : (values histogram : List ℕ) (a b : Tally) → CountIs values histogram a → CountIs values histogram b → a ≡ b
+one_count values histogram a b =
+    together alike (together alike (λ p q i. tally (alike p.number q.number i) (one_histogram values a b p q i)))
 
 -- a refused call does not answer 0
-count-refused : {n : ℕ} {histogram : List ℕ} {r : Tally} → 1 ≤ n → r ≡ tally n histogram → ¬ (r.number ≡ 0)
-count-refused some is done = let e = ap (λ (t : Tally). t.number) is in omega arith
+count_refused : {n : ℕ} {histogram : List ℕ} {r : Tally} → 1 ≤ n → r ≡ tally n histogram → ¬ (r.number ≡ 0)
+count_refused some is done = let e = ap (λ (t : Tally). t.number) is in omega arith
 
 -- 0 says that the values were counted
-pub when-counted : (values histogram : List ℕ) (r : Tally) → r.number ≡ 0 → CountIs values histogram r
+pub when_counted : (values histogram : List ℕ) (r : Tally) → r.number ≡ 0 → CountIs values histogram r
     → Countable values × Counted values r
-when-counted values histogram r done (inl a) = absurd (count-refused (lit≤ tt) a.1 done)
-when-counted values histogram r done (inr (places, inl a)) = absurd (count-refused (lit≤ tt) a.1 done)
-when-counted values histogram r done (inr (places, inr counted)) = counted
+when_counted values histogram r done (inl a) = absurd (count_refused (lit≤ tt) a.1 done)
+when_counted values histogram r done (inr (places, inl a)) = absurd (count_refused (lit≤ tt) a.1 done)
+when_counted values histogram r done (inr (places, inr counted)) = counted
 
 -- and any other that nothing was written
-pub when-refused : (values histogram : List ℕ) (r : Tally) → (r.number ≡ 0 → ⊥) → CountIs values histogram r → r.histogram ≡ histogram
-when-refused values histogram r some (inl a) = ap (λ (t : Tally). t.histogram) a.1
-when-refused values histogram r some (inr (places, inl a)) = ap (λ (t : Tally). t.histogram) a.1
-when-refused values histogram r some (inr (places, inr counted)) = absurd (some counted.1.number)
+pub when_refused : (values histogram : List ℕ) (r : Tally) → (r.number ≡ 0 → ⊥) → CountIs values histogram r → r.histogram ≡ histogram
+when_refused values histogram r some (inl a) = ap (λ (t : Tally). t.histogram) a.1
+when_refused values histogram r some (inr (places, inl a)) = ap (λ (t : Tally). t.histogram) a.1
+when_refused values histogram r some (inr (places, inr counted)) = absurd (some counted.1.number)
 
 -- ---- the two means
 -- the answer is determined: two thresholds that the promise permits are one
-pub one-two-means : (h : List ℕ) (a b : Threshold) → TwoMeansIs h a → TwoMeansIs h b → a ≡ b
-one-two-means h a b =
+pub one_two_means : (h : List ℕ) (a b : Threshold) → TwoMeansIs h a → TwoMeansIs h b → a ≡ b
+one_two_means h a b =
     together alike (together alike (together alike
     (λ p q.
     let number = alike p.number q.number in
@@ -58,37 +58,37 @@ one-two-means h a b =
     λ i. answered (number i) (rounds i) (value i))))
 
 -- a refused call does not answer 0
-threshold-refused : {n : ℕ} {r : Threshold} → 1 ≤ n → r ≡ refused n → ¬ (r.number ≡ 0)
-threshold-refused some is done = let e = ap (λ (t : Threshold). t.number) is in omega arith
+threshold_refused : {n : ℕ} {r : Threshold} → 1 ≤ n → r ≡ refused n → ¬ (r.number ≡ 0)
+threshold_refused some is done = let e = ap (λ (t : Threshold). t.number) is in omega arith
 
 -- 0 says that the threshold is settled
-pub when-settled : (h : List ℕ) (r : Threshold) → r.number ≡ 0 → TwoMeansIs h r → (length h ≡ 256) × Done 128 h r
-when-settled h r done (inl a) = absurd (threshold-refused (lit≤ tt) a.1 done)
-when-settled h r done (inr (levels, inl a)) = absurd (threshold-refused (lit≤ tt) a.1 done)
-when-settled h r done (inr (levels, inr (some, inl a))) = absurd (threshold-refused (lit≤ tt) a.1 done)
-when-settled h r done (inr (levels, inr (some, inr (few, d)))) = (levels, d)
+pub when_settled : (h : List ℕ) (r : Threshold) → r.number ≡ 0 → TwoMeansIs h r → (length h ≡ 256) × Done 128 h r
+when_settled h r done (inl a) = absurd (threshold_refused (lit≤ tt) a.1 done)
+when_settled h r done (inr (levels, inl a)) = absurd (threshold_refused (lit≤ tt) a.1 done)
+when_settled h r done (inr (levels, inr (some, inl a))) = absurd (threshold_refused (lit≤ tt) a.1 done)
+when_settled h r done (inr (levels, inr (some, inr (few, d)))) = (levels, d)
 
 -- in at most 511 rounds
-pub in-511 : (h : List ℕ) (r : Threshold) → r.number ≡ 0 → TwoMeansIs h r → r.rounds ≤ 511
-in-511 h r done is = let d = when-settled h r done is in omega (arith, d.0, d.1.settled.in-time)
+pub in_511 : (h : List ℕ) (r : Threshold) → r.number ≡ 0 → TwoMeansIs h r → r.rounds ≤ 511
+in_511 h r done is = let d = when_settled h r done is in omega (arith, d.0, d.1.settled.in_time)
 
 -- with a numerator below 2^49 and a denominator of at most 2^41
-pub value-small : (h : List ℕ) (r : Threshold) → r.number ≡ 0 → TwoMeansIs h r
+pub value_small : (h : List ℕ) (r : Threshold) → r.number ≡ 0 → TwoMeansIs h r
     → (r.value.numerator < 562949953421312) × (r.value.denominator ≤ 2199023255552)
-value-small h r done (inl a) = absurd (threshold-refused (lit≤ tt) a.1 done)
-value-small h r done (inr (levels, inl a)) = absurd (threshold-refused (lit≤ tt) a.1 done)
-value-small h r done (inr (levels, inr (some, inl a))) = absurd (threshold-refused (lit≤ tt) a.1 done)
-value-small h r done (inr (levels, inr (some, inr (few, d)))) =
+value_small h r done (inl a) = absurd (threshold_refused (lit≤ tt) a.1 done)
+value_small h r done (inr (levels, inl a)) = absurd (threshold_refused (lit≤ tt) a.1 done)
+value_small h r done (inr (levels, inr (some, inl a))) = absurd (threshold_refused (lit≤ tt) a.1 done)
+value_small h r done (inr (levels, inr (some, inr (few, d)))) =
     let s = d.settled in
     let small : r.value.denominator ≤ 2199023255552 =
-    rw s.answer (denominator-small h (threshold 128 h r.rounds) (record { levels = omega (arith, levels); values = few })) in
+    rw s.answer (denominator_small h (threshold 128 h r.rounds) (record { levels = omega (arith, levels); values = few })) in
     let top : highest h ≤ 255 = omega (arith, levels, highest-below h (pos_of_ne-zero some)) in
-    let under : r.value.numerator * 1 ≤ highest h * r.value.denominator = s.rests.within.to-highest in
+    let under : r.value.numerator * 1 ≤ highest h * r.value.denominator = s.rests.within.to_highest in
     (omega (arith, mul-le-mul top small), small)
 
 -- a histogram that was counted has a threshold
-pub counted-has-one : (values : List ℕ) (counts : Tally) (r : Threshold) → Countable values → Counted values counts
+pub counted_has_one : (values : List ℕ) (counts : Tally) (r : Threshold) → Countable values → Counted values counts
     → TwoMeansIs counts.histogram r → Done 128 counts.histogram r
-counted-has-one values counts r ok counted is =
-    past (omega (arith, counted.total-is, ok.few))
-    (past (λ none. omega (arith, counted.total-is, ok.some, none)) (past counted.places is))
+counted_has_one values counts r ok counted is =
+    past (omega (arith, counted.total_is, ok.few))
+    (past (λ none. omega (arith, counted.total_is, ok.some, none)) (past counted.places is))

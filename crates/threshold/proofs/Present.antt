@@ -10,8 +10,8 @@ use lib.ListN.{length, get_or-eq_default}
 use borrow.Author.Tests.{eqb-true, eqb-false, ne_eqb, lt-ltb, le-ltb}
 use Rattle.arithmetic.specs.Greatest.{Greatest, Least}
 use Rattle.arithmetic.specs.Sums.{sum}
-use Rattle.arithmetic.proofs.Greatest.{next-least}
-use Rattle.arithmetic.proofs.Sums.{sum-goes-on}
+use Rattle.arithmetic.proofs.Greatest.{next_least}
+use Rattle.arithmetic.proofs.Sums.{sum_goes_on}
 use Rattle.threshold.specs.Histogram.{count_of, total}
 use Rattle.threshold.specs.TwoMeans.{level, lowest, highest, start}
 
@@ -20,17 +20,17 @@ abbrev pub Present : List ℕ → ℕ → Type 0
 Present h v = 0 < count_of h v
 
 -- the levels of a histogram are those below its length
-present-below : (h : List ℕ) (v : ℕ) → Present h v → v < length h
-present-below h v p = lt_of_not-le (λ (past : length h ≤ v). omega (arith, p, get_or-eq_default h 0 past))
+present_below : (h : List ℕ) (v : ℕ) → Present h v → v < length h
+present_below h v p = lt_of_not-le (λ (past : length h ≤ v). omega (arith, p, get_or-eq_default h 0 past))
 
 -- a level that is not counted is another than one that is
-absent-is-another : (h : List ℕ) (q v : ℕ) → Present h q → count_of h v ≡ 0 → ¬ (v ≡ q)
-absent-is-another h q v there absent e = omega (arith, there, absent, ap (count_of h) e)
+absent_is_another : (h : List ℕ) (q v : ℕ) → Present h q → count_of h v ≡ 0 → ¬ (v ≡ q)
+absent_is_another h q v there absent e = omega (arith, there, absent, ap (count_of h) e)
 
 -- no levels have the total 0
-total-none : total [] ≡ 0
+total_none : total [] ≡ 0
 unfolding total sum
-total-none = refl
+total_none = refl
 
 -- the total is the first count and the total of the others
 total_first : (c : ℕ) (cs : List ℕ) → total (c ∷ cs) ≡ c + total cs
@@ -38,82 +38,82 @@ unfolding total sum
 total_first c cs =
     let next : (i : ℕ) → i < length cs → count_of cs i ≡ count_of (c ∷ cs) (1 + i) = λ i h. let e : 1 + i ≡ suc i = omega arith in rw e in
     let e : 1 + length cs ≡ suc (length cs) = omega arith in
-    omega (arith, rw e at (sum-goes-on 1 (length cs) (count_of (c ∷ cs)) (count_of cs) next))
+    omega (arith, rw e at (sum_goes_on 1 (length cs) (count_of (c ∷ cs)) (count_of cs) next))
 
 -- each count is a part of the total
-count-in-total : (h : List ℕ) (v : ℕ) → count_of h v ≤ total h
-count-in-total [] v = zero-le
-count-in-total (c ∷ cs) zero = omega (arith, total_first c cs)
-count-in-total (c ∷ cs) (suc v) = omega (arith, total_first c cs, count-in-total cs v)
+count_in_total : (h : List ℕ) (v : ℕ) → count_of h v ≤ total h
+count_in_total [] v = zero-le
+count_in_total (c ∷ cs) zero = omega (arith, total_first c cs)
+count_in_total (c ∷ cs) (suc v) = omega (arith, total_first c cs, count_in_total cs v)
 
 -- where a level is present, the total is not 0
-present-counts : (h : List ℕ) (v : ℕ) → Present h v → 0 < total h
-present-counts h v p = lt_of_lt_of_le p (count-in-total h v)
+present_counts : (h : List ℕ) (v : ℕ) → Present h v → 0 < total h
+present_counts h v p = lt_of_lt_of_le p (count_in_total h v)
 
 -- `lowest` is the least level present
-pub lowest-is : (h : List ℕ) → 0 < total h → Least (Present h) (lowest h)
-lowest-is [] some = absurd (let none : ⊥ = omega (arith, some, total-none) in none)
-lowest-is (zero ∷ cs) some = next-least (λ p. omega (arith, p)) (lowest-is cs (omega (arith, some, total_first 0 cs)))
-lowest-is (suc c ∷ cs) some = rw (ne_eqb (suc c) 0 (λ e. omega (arith, e))) (record { holds = omega arith; least = λ k p. zero-le })
+pub lowest_is : (h : List ℕ) → 0 < total h → Least (Present h) (lowest h)
+lowest_is [] some = absurd (let none : ⊥ = omega (arith, some, total_none) in none)
+lowest_is (zero ∷ cs) some = next_least (λ p. omega (arith, p)) (lowest_is cs (omega (arith, some, total_first 0 cs)))
+lowest_is (suc c ∷ cs) some = rw (ne_eqb (suc c) 0 (λ e. omega (arith, e))) (record { holds = omega arith; least = λ k p. zero-le })
 
 -- the greatest level present is one more behind any count
-behind-one : (c : ℕ) (cs : List ℕ) {q : ℕ} → Greatest (Present cs) q → Greatest (Present (c ∷ cs)) (suc q)
-behind-one c cs {q} rest = record { holds = rest.holds; most = later }
+behind_one : (c : ℕ) (cs : List ℕ) {q : ℕ} → Greatest (Present cs) q → Greatest (Present (c ∷ cs)) (suc q)
+behind_one c cs {q} rest = record { holds = rest.holds; most = later }
   where
     later : (k : ℕ) → Present (c ∷ cs) k → k ≤ suc q
     later zero p = zero-le
     later (suc k) p = omega (arith, rest.most k p)
 
 -- and it is 0 where nothing else is counted
-only-first : (c : ℕ) (cs : List ℕ) → 0 < c → total cs ≡ 0 → Greatest (Present (c ∷ cs)) 0
-only-first c cs some nothing = record { holds = some; most = first }
+only_first : (c : ℕ) (cs : List ℕ) → 0 < c → total cs ≡ 0 → Greatest (Present (c ∷ cs)) 0
+only_first c cs some nothing = record { holds = some; most = first }
   where
     first : (k : ℕ) → Present (c ∷ cs) k → k ≤ 0
     first zero p = zero-le
-    first (suc k) p = absurd (let none : ⊥ = omega (arith, nothing, present-counts cs k p) in none)
+    first (suc k) p = absurd (let none : ⊥ = omega (arith, nothing, present_counts cs k p) in none)
 
 -- `highest` is the greatest level present
-pub highest-is : (h : List ℕ) → 0 < total h → Greatest (Present h) (highest h)
-highest-is [] some = absurd (let none : ⊥ = omega (arith, some, total-none) in none)
-highest-is (c ∷ cs) some = go (eqb (total cs) 0) refl (highest-is cs)
+pub highest_is : (h : List ℕ) → 0 < total h → Greatest (Present h) (highest h)
+highest_is [] some = absurd (let none : ⊥ = omega (arith, some, total_none) in none)
+highest_is (c ∷ cs) some = go (eqb (total cs) 0) refl (highest_is cs)
   where
     go : (b : Bool) → eqb (total cs) 0 ≡ b → (0 < total cs → Greatest (Present cs) (highest cs))
         → Greatest (Present (c ∷ cs)) (highest (c ∷ cs))
     go true e rest =
         let nothing : total cs ≡ 0 = eqb-true (total cs) 0 e in
-        rw e (only-first c cs (omega (arith, some, total_first c cs, nothing)) nothing)
-    go false e rest = rw e (behind-one c cs (rest (pos_of_ne-zero (eqb-false (total cs) 0 e))))
+        rw e (only_first c cs (omega (arith, some, total_first c cs, nothing)) nothing)
+    go false e rest = rw e (behind_one c cs (rest (pos_of_ne-zero (eqb-false (total cs) 0 e))))
 
 -- where the searches for the two ends stand, from either side, and where they stop
 module _ (h : List ℕ) (some : 0 < total h) where
   pub lowest-below : lowest h < length h
-  lowest-below = present-below h (lowest h) (lowest-is h some).holds
+  lowest-below = present_below h (lowest h) (lowest_is h some).holds
 
   pub highest-below : highest h < length h
-  highest-below = present-below h (highest h) (highest-is h some).holds
+  highest-below = present_below h (highest h) (highest_is h some).holds
 
   pub lowest-later : (v : ℕ) → v ≤ lowest h → count_of h v ≡ 0 → v + 1 ≤ lowest h
-  lowest-later v so_far absent = omega (arith, absent-is-another h (lowest h) v (lowest-is h some).holds absent)
+  lowest-later v so_far absent = omega (arith, absent_is_another h (lowest h) v (lowest_is h some).holds absent)
 
   pub lowest-here : (v : ℕ) → v ≤ lowest h → ¬ (count_of h v ≡ 0) → v ≡ lowest h
-  lowest-here v so_far there = omega (arith, (lowest-is h some).least v (pos_of_ne-zero there))
+  lowest-here v so_far there = omega (arith, (lowest_is h some).least v (pos_of_ne-zero there))
 
   pub highest-sooner : (v : ℕ) → highest h ≤ v → count_of h v ≡ 0 → highest h + 1 ≤ v
-  highest-sooner v so_far absent = omega (arith, absent-is-another h (highest h) v (highest-is h some).holds absent)
+  highest-sooner v so_far absent = omega (arith, absent_is_another h (highest h) v (highest_is h some).holds absent)
 
   pub highest-here : (v : ℕ) → highest h ≤ v → ¬ (count_of h v ≡ 0) → v ≡ highest h
-  highest-here v so_far there = omega (arith, (highest-is h some).most v (pos_of_ne-zero there))
+  highest-here v so_far there = omega (arith, (highest_is h some).most v (pos_of_ne-zero there))
 
 -- the start, from the two ends as they were found
-module _ (m : ℕ) (h : List ℕ) {low high : ℕ} (is-low : low ≡ lowest h) (is-high : high ≡ highest h) where
+module _ (m : ℕ) (h : List ℕ) {low high : ℕ} (is_low : low ≡ lowest h) (is_high : high ≡ highest h) where
   pub start-low : m < low → level low ≡ start m h
   unfolding start
-  start-low below = rw (← is-low, lt-ltb m low below)
+  start-low below = rw (← is_low, lt-ltb m low below)
 
   pub start-high : low ≤ m → high < m → level high ≡ start m h
   unfolding start
-  start-high from above = rw (← is-low, ← is-high, le-ltb m low from, lt-ltb high m above)
+  start-high from above = rw (← is_low, ← is_high, le-ltb m low from, lt-ltb high m above)
 
   pub start-usual : low ≤ m → m ≤ high → level m ≡ start m h
   unfolding start
-  start-usual from to = rw (← is-low, ← is-high, le-ltb m low from, le-ltb high m to)
+  start-usual from to = rw (← is_low, ← is_high, le-ltb m low from, le-ltb high m to)

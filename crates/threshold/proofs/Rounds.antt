@@ -11,25 +11,25 @@ use lib.ListN.{length}
 use borrow.Author.Tests.{leb-true, leb-false, le-leb}
 use Rattle.arithmetic.specs.declared.Fraction.{Fraction}
 use Rattle.arithmetic.specs.Fractions.{fraction, Proper, Equal, NotMore}
-use Rattle.arithmetic.specs.Sums.{sumOver}
-use Rattle.arithmetic.proofs.Fractions.{not-more-trans, either_way}
+use Rattle.arithmetic.specs.Sums.{sum_over}
+use Rattle.arithmetic.proofs.Fractions.{not_more_trans, either_way}
 use Rattle.threshold.specs.Histogram.{count_of}
-use Rattle.threshold.specs.TwoMeans.{level, low, high, levelSum, mean, round}
-use Rattle.threshold.proofs.Picks.{Sub, beyond, beyond-is, over-in-two, over-le, over_zero, over-times, over_add}
+use Rattle.threshold.specs.TwoMeans.{level, low, high, level_sum, mean, round}
+use Rattle.threshold.proofs.Picks.{Sub, beyond, beyond_is, over_in_two, over_le, over_zero, over_times, over_add}
 use Rattle.threshold.proofs.HalfSums.{half-sum-grows, low_same, high_same}
 
 -- A, B, C and E: the sum and the number of the levels up to T, and of those from T on
-abbrev pub lowSum : List ℕ → Fraction → ℕ
-lowSum h T = (mean h (low T)).numerator
+abbrev pub low_sum : List ℕ → Fraction → ℕ
+low_sum h T = (mean h (low T)).numerator
 
-abbrev pub lowNumber : List ℕ → Fraction → ℕ
-lowNumber h T = (mean h (low T)).denominator
+abbrev pub low_number : List ℕ → Fraction → ℕ
+low_number h T = (mean h (low T)).denominator
 
-abbrev pub highSum : List ℕ → Fraction → ℕ
-highSum h T = (mean h (high T)).numerator
+abbrev pub high_sum : List ℕ → Fraction → ℕ
+high_sum h T = (mean h (high T)).numerator
 
-abbrev pub highNumber : List ℕ → Fraction → ℕ
-highNumber h T = (mean h (high T)).denominator
+abbrev pub high_number : List ℕ → Fraction → ℕ
+high_number h T = (mean h (high T)).denominator
 
 -- the levels picked all lie below n/d; none of them does
 abbrev Under : (ℕ → Bool) → ℕ → ℕ → Type 0
@@ -44,21 +44,21 @@ module _ (h : List ℕ) (p q : ℕ → Bool) (n d : ℕ) (pos : 0 < d) (below : 
   sum-under =
       omega (
         arith,
-        over-le (length h) p (λ v. levelSum h v * d + count_of h v) (λ v. count_of h v * n)
+        over_le (length h) p (λ v. level_sum h v * d + count_of h v) (λ v. count_of h v * n)
             (λ v t. omega (arith, mul-le-mul_right (count_of h v) (below v t))),
-        over_add (length h) p (λ v. levelSum h v * d) (count_of h),
-        over-times (length h) p (levelSum h) d,
-        over-times (length h) p (count_of h) n,
+        over_add (length h) p (λ v. level_sum h v * d) (count_of h),
+        over_times (length h) p (level_sum h) d,
+        over_times (length h) p (count_of h) n,
       )
 
   sum-from : (mean h q).denominator * n ≤ (mean h q).numerator * d
   sum-from =
       omega (
         arith,
-        over-le (length h) q (λ v. count_of h v * n) (λ v. levelSum h v * d)
+        over_le (length h) q (λ v. count_of h v * n) (λ v. level_sum h v * d)
             (λ v t. omega (arith, mul-le-mul_right (count_of h v) (from v t))),
-        over-times (length h) q (levelSum h) d,
-        over-times (length h) q (count_of h) n,
+        over_times (length h) q (level_sum h) d,
+        over_times (length h) q (count_of h) n,
       )
 
   gap : (mean h p).numerator * (mean h q).denominator * d + (mean h p).denominator * (mean h q).denominator
@@ -79,15 +79,15 @@ module _ (h : List ℕ) (p q : ℕ → Bool) (n d : ℕ) (pos : 0 < d) (below : 
       eq_of_mul-eq-mul_right (mean h q).denominator some (mean h p).denominator 0 (omega (arith, gap, ap (λ (z : ℕ). z * d) e))
 
 -- where T is not more than U, a level up to T is one up to U, and a level from U on is one from T on
-low-sub : (T U : Fraction) → Proper T → NotMore T U → Sub (low T) (low U)
-low-sub T U proper l v t =
+low_sub : (T U : Fraction) → Proper T → NotMore T U → Sub (low T) (low U)
+low_sub T U proper l v t =
     le-leb (v * U.denominator) U.numerator
-    (omega (arith, not-more-trans (level v) T U proper (omega (arith, leb-true (v * T.denominator) T.numerator t)) l))
+    (omega (arith, not_more_trans (level v) T U proper (omega (arith, leb-true (v * T.denominator) T.numerator t)) l))
 
-high-sub : (T U : Fraction) → Proper U → NotMore T U → Sub (high U) (high T)
-high-sub T U proper l v t =
+high_sub : (T U : Fraction) → Proper U → NotMore T U → Sub (high U) (high T)
+high_sub T U proper l v t =
     le-leb T.numerator (v * T.denominator)
-    (omega (arith, not-more-trans T U (level v) proper l (omega (arith, leb-true U.numerator (v * U.denominator) t))))
+    (omega (arith, not_more_trans T U (level v) proper l (omega (arith, leb-true U.numerator (v * U.denominator) t))))
 
 module _ (h : List ℕ) (T U : Fraction) (pT : Proper T) (pU : Proper U) (l : NotMore T U) where
   -- the levels up to U that lie above T, and the levels from T on that lie below U
@@ -98,17 +98,17 @@ module _ (h : List ℕ) (T U : Fraction) (pT : Proper T) (pU : Proper U) (l : No
   beneath = beyond (high U) (high T)
 
   -- so the levels on either side fall into two parts
-  low_parts : (f : ℕ → ℕ) → sumOver (length h) (low U) f ≡ sumOver (length h) (low T) f + sumOver (length h) above f
-  low_parts = over-in-two (low T) (low U) (low-sub T U pT l) (length h)
+  low_parts : (f : ℕ → ℕ) → sum_over (length h) (low U) f ≡ sum_over (length h) (low T) f + sum_over (length h) above f
+  low_parts = over_in_two (low T) (low U) (low_sub T U pT l) (length h)
 
-  high_parts : (f : ℕ → ℕ) → sumOver (length h) (high T) f ≡ sumOver (length h) (high U) f + sumOver (length h) beneath f
-  high_parts = over-in-two (high U) (high T) (high-sub T U pU l) (length h)
+  high_parts : (f : ℕ → ℕ) → sum_over (length h) (high T) f ≡ sum_over (length h) (high U) f + sum_over (length h) beneath f
+  high_parts = over_in_two (high U) (high T) (high_sub T U pU l) (length h)
 
   -- the larger the threshold, the more levels are up to it, and the fewer from it on
-  pub low-more : (f : ℕ → ℕ) → sumOver (length h) (low T) f ≤ sumOver (length h) (low U) f
+  pub low-more : (f : ℕ → ℕ) → sum_over (length h) (low T) f ≤ sum_over (length h) (low U) f
   low-more f = omega (arith, low_parts f)
 
-  pub high-fewer : (f : ℕ → ℕ) → sumOver (length h) (high U) f ≤ sumOver (length h) (high T) f
+  pub high-fewer : (f : ℕ → ℕ) → sum_over (length h) (high U) f ≤ sum_over (length h) (high T) f
   high-fewer f = omega (arith, high_parts f)
 
   -- where the parts lie
@@ -116,10 +116,10 @@ module _ (h : List ℕ) (T U : Fraction) (pT : Proper T) (pU : Proper U) (l : No
   low-under v t = omega (arith, leb-true (v * T.denominator) T.numerator t)
 
   above_from : From above (suc T.numerator) T.denominator
-  above_from v t = leb-false (v * T.denominator) T.numerator (beyond-is (low T) (low U) v t).1
+  above_from v t = leb-false (v * T.denominator) T.numerator (beyond_is (low T) (low U) v t).1
 
   beneath-under : Under beneath U.numerator U.denominator
-  beneath-under v t = leb-false U.numerator (v * U.denominator) (beyond-is (high U) (high T) v t).1
+  beneath-under v t = leb-false U.numerator (v * U.denominator) (beyond_is (high U) (high T) v t).1
 
   high-from : From (high U) U.numerator U.denominator
   high-from v = leb-true U.numerator (v * U.denominator)
@@ -127,12 +127,12 @@ module _ (h : List ℕ) (T U : Fraction) (pT : Proper T) (pU : Proper U) (l : No
   -- both means grow with the threshold
   low-grows : NotMore (mean h (low T)) (mean h (low U))
   low-grows =
-      rw (low_parts (levelSum h), low_parts (count_of h))
+      rw (low_parts (level_sum h), low_parts (count_of h))
       (omega (arith, apart h (low T) above (suc T.numerator) T.denominator pT low-under above_from))
 
   high-grows : NotMore (mean h (high T)) (mean h (high U))
   high-grows =
-      rw (high_parts (levelSum h), high_parts (count_of h))
+      rw (high_parts (level_sum h), high_parts (count_of h))
       (omega (arith, apart h beneath (high U) U.numerator U.denominator pU beneath-under high-from))
 
   -- a round keeps the order
@@ -143,35 +143,35 @@ module _ (h : List ℕ) (T U : Fraction) (pT : Proper T) (pU : Proper U) (l : No
   -- Where as many levels are up to T as up to U, and as many from T on as from U on, a round gives the same pair; f may count
   -- levels in any way that leaves out none that is present.
   pub same-split : (f : ℕ → ℕ) → ((v : ℕ) → f v ≡ 0 → count_of h v ≡ 0)
-      → sumOver (length h) (low T) f ≡ sumOver (length h) (low U) f → sumOver (length h) (high T) f ≡ sumOver (length h) (high U) f
+      → sum_over (length h) (low T) f ≡ sum_over (length h) (low U) f → sum_over (length h) (high T) f ≡ sum_over (length h) (high U) f
       → round h T ≡ round h U
   unfolding round
   same-split f z a b =
-      let none_above : sumOver (length h) above f ≡ 0 = omega (arith, low_parts f) in
-      let none-beneath : sumOver (length h) beneath f ≡ 0 = omega (arith, high_parts f) in
-      let nothing : (v : ℕ) → f v ≡ 0 → levelSum h v ≡ 0 = λ v e. rw (z v e) (omega arith) in
-      let A : lowSum h T ≡ lowSum h U =
-      omega (arith, low_parts (levelSum h), over_zero (length h) above f (levelSum h) nothing none_above) in
-      let B : lowNumber h T ≡ lowNumber h U = omega (arith, low_parts (count_of h), over_zero (length h) above f (count_of h) z none_above) in
-      let C : highSum h T ≡ highSum h U =
-      omega (arith, high_parts (levelSum h), over_zero (length h) beneath f (levelSum h) nothing none-beneath) in
-      let E : highNumber h T ≡ highNumber h U =
+      let none_above : sum_over (length h) above f ≡ 0 = omega (arith, low_parts f) in
+      let none-beneath : sum_over (length h) beneath f ≡ 0 = omega (arith, high_parts f) in
+      let nothing : (v : ℕ) → f v ≡ 0 → level_sum h v ≡ 0 = λ v e. rw (z v e) (omega arith) in
+      let A : low_sum h T ≡ low_sum h U =
+      omega (arith, low_parts (level_sum h), over_zero (length h) above f (level_sum h) nothing none_above) in
+      let B : low_number h T ≡ low_number h U = omega (arith, low_parts (count_of h), over_zero (length h) above f (count_of h) z none_above) in
+      let C : high_sum h T ≡ high_sum h U =
+      omega (arith, high_parts (level_sum h), over_zero (length h) beneath f (level_sum h) nothing none-beneath) in
+      let E : high_number h T ≡ high_number h U =
       omega (arith, high_parts (count_of h), over_zero (length h) beneath f (count_of h) z none-beneath) in
       λ i. fraction (A i * E i + C i * B i) (2 * B i * E i)
 
   -- where the means are the same, so are the numbers of levels
-  low-number : 0 < lowNumber h T → Equal (mean h (low T)) (mean h (low U)) → lowNumber h T ≡ lowNumber h U
+  low-number : 0 < low_number h T → Equal (mean h (low T)) (mean h (low U)) → low_number h T ≡ low_number h U
   low-number some e =
-      let same : Equal (mean h (low T)) (mean h above) = omega (arith, rw (low_parts (levelSum h), low_parts (count_of h)) at e) in
+      let same : Equal (mean h (low T)) (mean h above) = omega (arith, rw (low_parts (level_sum h), low_parts (count_of h)) at e) in
       omega (
         arith,
         low_parts (count_of h),
         none_from h (low T) above (suc T.numerator) T.denominator pT low-under above_from some same,
       )
 
-  high-number : 0 < highNumber h U → Equal (mean h (high T)) (mean h (high U)) → highNumber h T ≡ highNumber h U
+  high-number : 0 < high_number h U → Equal (mean h (high T)) (mean h (high U)) → high_number h T ≡ high_number h U
   high-number some e =
-      let same : Equal (mean h beneath) (mean h (high U)) = omega (arith, rw (high_parts (levelSum h), high_parts (count_of h)) at e) in
+      let same : Equal (mean h beneath) (mean h (high U)) = omega (arith, rw (high_parts (level_sum h), high_parts (count_of h)) at e) in
       omega (
         arith,
         high_parts (count_of h),
@@ -179,7 +179,7 @@ module _ (h : List ℕ) (T U : Fraction) (pT : Proper T) (pU : Proper U) (l : No
       )
 
   -- a round gives equal thresholds as equal pairs: in order
-  pair : 0 < lowNumber h T → 0 < highNumber h T → 0 < lowNumber h U → 0 < highNumber h U → Equal (round h T) (round h U)
+  pair : 0 < low_number h T → 0 < high_number h T → 0 < low_number h U → 0 < high_number h U → Equal (round h T) (round h U)
       → round h T ≡ round h U
   unfolding round
   pair b e b' e' s =
@@ -188,15 +188,15 @@ module _ (h : List ℕ) (T U : Fraction) (pT : Proper T) (pU : Proper U) (l : No
       (high-number e' (high_same (mean h (low T)) (mean h (high T)) (mean h (low U)) (mean h (high U)) low-grows high-grows b b' s))
 
 -- and whichever of the two is larger
-pub same-pair : (h : List ℕ) (T U : Fraction) → Proper T → Proper U
-    → 0 < lowNumber h T → 0 < highNumber h T → 0 < lowNumber h U → 0 < highNumber h U
+pub same_pair : (h : List ℕ) (T U : Fraction) → Proper T → Proper U
+    → 0 < low_number h T → 0 < high_number h T → 0 < low_number h U → 0 < high_number h U
     → Equal (round h T) (round h U) → round h T ≡ round h U
-same-pair h T U pT pU b e b' e' s =
+same_pair h T U pT pU b e b' e' s =
     ⊎_elim (λ l. pair h T U pT pU l b e b' e' s) (λ l. sym (pair h U T pU pT l b' e' b e (sym s))) (either_way T U)
 
 -- equal thresholds have the same round, whatever their pairs
-pub same-threshold : (h : List ℕ) (T U : Fraction) → Proper T → Proper U → Equal T U → round h T ≡ round h U
-same-threshold h T U pT pU s =
+pub same_threshold : (h : List ℕ) (T U : Fraction) → Proper T → Proper U → Equal T U → round h T ≡ round h U
+same_threshold h T U pT pU s =
     let up : NotMore T U = le_of_eq s in
     let down : NotMore U T = le_of_eq (sym s) in
     same-split h T U pT pU up (count_of h) (λ v z. z)

@@ -14,35 +14,35 @@ use lib.ListN.{length}
 use borrow.Author.Tests.{le-leb, ltb-false}
 use Rattle.arithmetic.specs.declared.Fraction.{Fraction}
 use Rattle.arithmetic.specs.Fractions.{Proper, Equal, NotMore}
-use Rattle.arithmetic.specs.Sums.{sumOver}
-use Rattle.arithmetic.proofs.Sums.{sum-most}
-use Rattle.arithmetic.proofs.Fractions.{not-more-trans, either_way}
+use Rattle.arithmetic.specs.Sums.{sum_over}
+use Rattle.arithmetic.proofs.Sums.{sum_most}
+use Rattle.arithmetic.proofs.Fractions.{not_more_trans, either_way}
 use Rattle.threshold.specs.Histogram.{count_of, total}
-use Rattle.threshold.specs.TwoMeans.{level, lowest, highest, nearest, start, low, high, levelSum, round, Within, Rests, threshold}
-use Rattle.threshold.proofs.Present.{lowest-is, highest-is, lowest-below, highest-below}
-use Rattle.threshold.proofs.Picks.{over-part, over-has, over-le, over-times}
-use Rattle.threshold.proofs.Rounds.{lowNumber, highNumber, round-keeps-order, low-more, high-fewer, same-split}
+use Rattle.threshold.specs.TwoMeans.{level, lowest, highest, nearest, start, low, high, level_sum, round, Within, Rests, threshold}
+use Rattle.threshold.proofs.Present.{lowest_is, highest_is, lowest-below, highest-below}
+use Rattle.threshold.proofs.Picks.{over_part, over_has, over_le, over_times}
+use Rattle.threshold.proofs.Rounds.{low_number, high_number, round-keeps-order, low-more, high-fewer, same-split}
 
 -- numbers above 0 that never rise, the first of them at most b, stand still within b steps
-falling-still : (b : ℕ) (f : ℕ → ℕ) → ((k : ℕ) → f (suc k) ≤ f k) → ((k : ℕ) → 0 < f k) → f 0 ≤ b
+falling_still : (b : ℕ) (f : ℕ → ℕ) → ((k : ℕ) → f (suc k) ≤ f k) → ((k : ℕ) → 0 < f k) → f 0 ≤ b
     → (k : ℕ) × (k < b) × (f (suc k) ≡ f k)
-falling-still zero f falls pos most = absurd (let none : ⊥ = omega (arith, pos 0) in none)
-falling-still (suc b) f falls pos most =
+falling_still zero f falls pos most = absurd (let none : ⊥ = omega (arith, pos 0) in none)
+falling_still (suc b) f falls pos most =
     ⊎_elim (λ e. (0, omega arith, e))
-    (λ (less : f 1 < f 0). one_later (falling-still b (λ k. f (suc k)) (λ k. falls (suc k)) (λ k. pos (suc k)) (omega arith)))
+    (λ (less : f 1 < f 0). one_later (falling_still b (λ k. f (suc k)) (λ k. falls (suc k)) (λ k. pos (suc k)) (omega arith)))
     (eq-or-lt_of_le (falls 0))
   where
     one_later : (k : ℕ) × (k < b) × (f (suc (suc k)) ≡ f (suc k)) → (k : ℕ) × (k < suc b) × (f (suc k) ≡ f k)
     one_later r = (suc r.0, omega (arith, r.1), r.2)
 
 -- numbers from 1 to b that never fall, or never rise, stand still within b steps
-stands-still : (b : ℕ) (f : ℕ → ℕ) → ((k : ℕ) → (0 < f k) × (f k ≤ b))
+stands_still : (b : ℕ) (f : ℕ → ℕ) → ((k : ℕ) → (0 < f k) × (f k ≤ b))
     → ((k : ℕ) → f k ≤ f (suc k)) ⊎ ((k : ℕ) → f (suc k) ≤ f k)
     → (k : ℕ) × (k < b) × (f (suc k) ≡ f k)
-stands-still b f in-it (inl rises) =
-    let r = falling-still b (λ k. suc b - f k) (λ k. omega (arith, rises k)) (λ k. omega (arith, (in-it k).1)) (omega (arith, (in-it 0).0)) in
+stands_still b f in-it (inl rises) =
+    let r = falling_still b (λ k. suc b - f k) (λ k. omega (arith, rises k)) (λ k. omega (arith, (in-it k).1)) (omega (arith, (in-it 0).0)) in
     (r.0, r.1, omega (arith, r.2, (in-it r.0).1, (in-it (suc r.0)).1))
-stands-still b f in-it (inr falls) = falling-still b f falls (λ k. (in-it k).0) (in-it 0).1
+stands_still b f in-it (inr falls) = falling_still b f falls (λ k. (in-it k).0) (in-it 0).1
 
 -- within the levels present or not, at rest or not
 unfoldable pub within_or_not : (h : List ℕ) (T : Fraction) → Dec (Within h T)
@@ -50,12 +50,12 @@ within_or_not h T =
     let test : Dec (Proper T × (NotMore (level (lowest h)) T × NotMore T (level (highest h)))) =
     Logic.Dec.and (dec_le _ _) (Logic.Dec.and (dec_le _ _) (dec_le _ _)) in
     elim test [
-      | yes p ↦ yes (record { proper = p.0; from_lowest = p.1.0; to-highest = p.1.1 })
-      | no f ↦ no (λ w. f (w.proper, (w.from_lowest, w.to-highest)))
+      | yes p ↦ yes (record { proper = p.0; from_lowest = p.1.0; to_highest = p.1.1 })
+      | no f ↦ no (λ w. f (w.proper, (w.from_lowest, w.to_highest)))
     ]
 
-unfoldable pub rests-or-not : (h : List ℕ) (T : Fraction) → Dec (Rests h T)
-rests-or-not h T =
+unfoldable pub rests_or_not : (h : List ℕ) (T : Fraction) → Dec (Rests h T)
+rests_or_not h T =
     let test : Dec (Within h T × Equal (round h T) T) = Logic.Dec.and (within_or_not h T) (ℕ_discrete _ _) in
     elim test [
       | yes p ↦ yes (record { within = p.0; still = p.1 })
@@ -68,11 +68,11 @@ one v = 1
 
 -- where a threshold stands, in halves of a level: how many levels are up to it, and how many are not from it on
 unfoldable position : List ℕ → Fraction → ℕ
-position h T = sumOver (length h) (low T) one + (length h - sumOver (length h) (high T) one)
+position h T = sum_over (length h) (low T) one + (length h - sum_over (length h) (high T) one)
 
 -- of n levels at most n are picked
-at-most-all : (n : ℕ) (p : ℕ → Bool) → sumOver n p one ≤ n
-at-most-all n p = omega (arith, over-part n p one, sum-most 1 n one (λ v. omega arith))
+at_most_all : (n : ℕ) (p : ℕ → Bool) → sum_over n p one ≤ n
+at_most_all n p = omega (arith, over_part n p one, sum_most 1 n one (λ v. omega arith))
 
 module _ (h : List ℕ) (T U : Fraction) (pT : Proper T) (pU : Proper U) where
   -- the larger the threshold, the later its position
@@ -86,18 +86,18 @@ module _ (h : List ℕ) (T U : Fraction) (pT : Proper T) (pU : Proper U) where
   same-below l e =
       let x = low-more h T U pT pU l one in
       let y = high-fewer h T U pT pU l one in
-      let z = at-most-all (length h) (high T) in
+      let z = at_most_all (length h) (high T) in
       same-split h T U pT pU l one (λ v z. absurd (let none : ⊥ =
       omega (arith, z) in none)) (omega (arith, x, y, z)) (omega (arith, x, y, z))
 
 -- and whichever of the two is larger
-same-position : (h : List ℕ) (T U : Fraction) → Proper T → Proper U → position h T ≡ position h U → round h T ≡ round h U
-same-position h T U pT pU e =
+same_position : (h : List ℕ) (T U : Fraction) → Proper T → Proper U → position h T ≡ position h U → round h T ≡ round h U
+same_position h T U pT pU e =
     ⊎_elim (λ l. same-below h T U pT pU l e) (λ l. sym (same-below h U T pU pT l (sym e))) (either_way T U)
 
 -- m, or the nearest of two ends, lies from one end to the other
-nearest-within : (m g G : ℕ) → g ≤ G → (g ≤ nearest m g G) × (nearest m g G ≤ G)
-nearest-within m g G l = go (ltb m g) (ltb G m) refl refl
+nearest_within : (m g G : ℕ) → g ≤ G → (g ≤ nearest m g G) × (nearest m g G ≤ G)
+nearest_within m g G l = go (ltb m g) (ltb G m) refl refl
   where
     go : (b d : Bool) → ltb m g ≡ b → ltb G m ≡ d → (g ≤ cond b g (cond d G m)) × (cond b g (cond d G m) ≤ G)
     go true d e f = omega arith
@@ -105,80 +105,80 @@ nearest-within m g G l = go (ltb m g) (ltb G m) refl refl
     go false false e f = omega (arith, ltb-false m g e, ltb-false G m f)
 
 -- c times a number that is at most another wherever c is not 0
-where-some : (c x y : ℕ) → (0 < c → x ≤ y) → x * c ≤ y * c
-where-some zero x y l = omega arith
-where-some (suc c) x y l = mul-le-mul_right (suc c) (l (omega arith))
+where_some : (c x y : ℕ) → (0 < c → x ≤ y) → x * c ≤ y * c
+where_some zero x y l = omega arith
+where_some (suc c) x y l = mul-le-mul_right (suc c) (l (omega arith))
 
 module _ (h : List ℕ) (some : 0 < total h) where
   -- what is picked sums up to at least the lowest level each, and at most the highest
-  lowest-each : (p : ℕ → Bool) → sumOver (length h) p (count_of h) * lowest h ≤ sumOver (length h) p (levelSum h)
+  lowest-each : (p : ℕ → Bool) → sum_over (length h) p (count_of h) * lowest h ≤ sum_over (length h) p (level_sum h)
   lowest-each p =
       omega (
         arith,
-        over-le (length h) p (λ v. count_of h v * lowest h) (levelSum h)
-            (λ v t. omega (arith, where-some (count_of h v) (lowest h) v ((lowest-is h some).least v))),
-        over-times (length h) p (count_of h) (lowest h),
+        over_le (length h) p (λ v. count_of h v * lowest h) (level_sum h)
+            (λ v t. omega (arith, where_some (count_of h v) (lowest h) v ((lowest_is h some).least v))),
+        over_times (length h) p (count_of h) (lowest h),
       )
 
-  highest-each : (p : ℕ → Bool) → sumOver (length h) p (levelSum h) ≤ sumOver (length h) p (count_of h) * highest h
+  highest-each : (p : ℕ → Bool) → sum_over (length h) p (level_sum h) ≤ sum_over (length h) p (count_of h) * highest h
   highest-each p =
       omega (
         arith,
-        over-le (length h) p (levelSum h) (λ v. count_of h v * highest h)
-            (λ v t. omega (arith, where-some (count_of h v) v (highest h) ((highest-is h some).most v))),
-        over-times (length h) p (count_of h) (highest h),
+        over_le (length h) p (level_sum h) (λ v. count_of h v * highest h)
+            (λ v t. omega (arith, where_some (count_of h v) v (highest h) ((highest_is h some).most v))),
+        over_times (length h) p (count_of h) (highest h),
       )
 
   -- the lowest level is up to T, and the highest from T on
   module _ (T : Fraction) (w : Within h T) where
-    low-has : (f : ℕ → ℕ) → f (lowest h) ≤ sumOver (length h) (low T) f
+    low-has : (f : ℕ → ℕ) → f (lowest h) ≤ sum_over (length h) (low T) f
     low-has f =
-        over-has (length h) (low T) f (lowest h) (lowest-below h some)
+        over_has (length h) (low T) f (lowest h) (lowest-below h some)
         (le-leb (lowest h * T.denominator) T.numerator (omega (arith, w.from_lowest)))
 
-    high-has : (f : ℕ → ℕ) → f (highest h) ≤ sumOver (length h) (high T) f
+    high-has : (f : ℕ → ℕ) → f (highest h) ≤ sum_over (length h) (high T) f
     high-has f =
-        over-has (length h) (high T) f (highest h) (highest-below h some)
-        (le-leb T.numerator (highest h * T.denominator) (omega (arith, w.to-highest)))
+        over_has (length h) (high T) f (highest h) (highest-below h some)
+        (le-leb T.numerator (highest h * T.denominator) (omega (arith, w.to_highest)))
 
     -- so there are levels on both sides
-    pub low-some : 0 < lowNumber h T
-    low-some = lt_of_lt_of_le (lowest-is h some).holds (low-has (count_of h))
+    pub low-some : 0 < low_number h T
+    low-some = lt_of_lt_of_le (lowest_is h some).holds (low-has (count_of h))
 
-    pub high-some : 0 < highNumber h T
-    high-some = lt_of_lt_of_le (highest-is h some).holds (high-has (count_of h))
+    pub high-some : 0 < high_number h T
+    high-some = lt_of_lt_of_le (highest_is h some).holds (high-has (count_of h))
 
     -- and a round stays from the lowest to the highest level
     pub round-within : Within h (round h T)
     unfolding round
     round-within =
         record {
-          proper = mul-pos {m = 2 * lowNumber h T} {n = highNumber h T} (omega (arith, low-some)) high-some;
+          proper = mul-pos {m = 2 * low_number h T} {n = high_number h T} (omega (arith, low-some)) high-some;
           from_lowest =
               omega (
                 arith,
-                mul-le-mul_right (highNumber h T) (lowest-each (low T)),
-                mul-le-mul_right (lowNumber h T) (lowest-each (high T)),
+                mul-le-mul_right (high_number h T) (lowest-each (low T)),
+                mul-le-mul_right (low_number h T) (lowest-each (high T)),
               );
-          to-highest =
+          to_highest =
               omega (
                 arith,
-                mul-le-mul_right (highNumber h T) (highest-each (low T)),
-                mul-le-mul_right (lowNumber h T) (highest-each (high T)),
+                mul-le-mul_right (high_number h T) (highest-each (low T)),
+                mul-le-mul_right (low_number h T) (highest-each (high T)),
               );
         }
 
     -- where there are n levels, the positions are 1 to 2·n − 1
     position-within : (0 < position h T) × (position h T ≤ 2 * length h - 1)
     unfolding position
-    position-within = omega (arith, low-has one, high-has one, at-most-all (length h) (low T), at-most-all (length h) (high T))
+    position-within = omega (arith, low-has one, high-has one, at_most_all (length h) (low T), at_most_all (length h) (high T))
 
   -- the start and all that follows lie from the lowest to the highest level
   pub start-within : (m : ℕ) → Within h (start m h)
   unfolding start
   start-within m =
-      let ends = nearest-within m (lowest h) (highest h) ((highest-is h some).most (lowest h) (lowest-is h some).holds) in
-      record { proper = omega arith; from_lowest = omega (arith, ends.0); to-highest = omega (arith, ends.1) }
+      let ends = nearest_within m (lowest h) (highest h) ((highest_is h some).most (lowest h) (lowest_is h some).holds) in
+      record { proper = omega arith; from_lowest = omega (arith, ends.0); to_highest = omega (arith, ends.1) }
 
   pub threshold-within : (m k : ℕ) → Within h (threshold m h k)
   unfolding threshold
@@ -194,8 +194,8 @@ module _ (h : List ℕ) (some : 0 < total h) where
   in_order : (S R : ℕ → Fraction) → Follows S → Follows R → NotMore (S 0) (R 0) → (k : ℕ) → NotMore (S k) (R k)
   in_order S R s r l zero = l
   in_order S R s r l (suc k) =
-      not-more-trans (S (suc k)) (round h (S k)) (R (suc k)) (round-within (S k) (s.within k)).proper (le_of_eq (sym (s.next k)))
-      (not-more-trans (round h (S k)) (round h (R k)) (R (suc k)) (round-within (R k) (r.within k)).proper
+      not_more_trans (S (suc k)) (round h (S k)) (R (suc k)) (round-within (S k) (s.within k)).proper (le_of_eq (sym (s.next k)))
+      (not_more_trans (round h (S k)) (round h (R k)) (R (suc k)) (round-within (R k) (r.within k)).proper
       (round-keeps-order h (S k) (R k) (s.within k).proper (r.within k).proper (in_order S R s r l k))
       (le_of_eq (r.next k)))
 
@@ -243,7 +243,7 @@ module _ (h : List ℕ) (some : 0 < total h) where
         let U : Fraction = threshold m h (suc k) in
         let w : Within h U = threshold-within m (suc k) in
         given_back (suc k) (subst (λ (R : Fraction). Equal R U)
-        (same-position h T U (threshold-within m k).proper w.proper (sym e)) refl)
+        (same_position h T U (threshold-within m k).proper w.proper (sym e)) refl)
 
     -- the positions go one way too
     positions-one-way : ((k : ℕ) → position h (threshold m h k) ≤ position h (threshold m h (suc k)))
@@ -258,6 +258,6 @@ module _ (h : List ℕ) (some : 0 < total h) where
     pub comes-to-rest : (k : ℕ) × (k ≤ 2 * length h - 1) × Rests h (threshold m h k)
     comes-to-rest =
         let r =
-        stands-still (2 * length h - 1) (λ k. position h (threshold m h k))
+        stands_still (2 * length h - 1) (λ k. position h (threshold m h k))
         (λ k. position-within (threshold m h k) (threshold-within m k)) positions-one-way in
         (suc r.0, r.1, rests-there r.0 r.2)

@@ -13,18 +13,18 @@ use Rattle.threshold.specs.Histogram.{total}
 use Rattle.threshold.specs.TwoMeans.{level, highest, start, round, Within, threshold, answered, Done}
 use Rattle.threshold.specs.inside.Asked.{Small}
 use Rattle.threshold.proofs.Present.{highest-below}
-use Rattle.threshold.proofs.Rounds.{same-pair}
-use Rattle.threshold.proofs.Tables.{denominator-small}
+use Rattle.threshold.proofs.Rounds.{same_pair}
+use Rattle.threshold.proofs.Tables.{denominator_small}
 use Rattle.threshold.proofs.Sequence.{low-some, high-some, start-within, threshold-within, given_back, comes-to-rest}
 use Rattle.threshold.proofs.Demand.{RestsAt, settled}
 
 -- Before a test of the loop: `next` is the threshold after the k-th, none before the k-th rests, and `t` and `next` are one pair exactly
 -- where the k-th does.
 pub record Going (m : ℕ) (h : List ℕ) (k : ℕ) (t next : Fraction) : Type 0 where
-  pub is-next : next ≡ threshold m h (suc k)
-  pub not-before : (j : ℕ) → RestsAt m h j → k ≤ j
-  pub same-rests : t ≡ next → RestsAt m h k
-  pub rests-same : RestsAt m h k → t ≡ next
+  pub is_next : next ≡ threshold m h (suc k)
+  pub not_before : (j : ℕ) → RestsAt m h j → k ≤ j
+  pub same_rests : t ≡ next → RestsAt m h k
+  pub rests_same : RestsAt m h k → t ≡ next
 
 module _ (m : ℕ) (h : List ℕ) (some : 0 < total h) where
   -- from a level that is the start a round can be made
@@ -35,9 +35,9 @@ module _ (m : ℕ) (h : List ℕ) (some : 0 < total h) where
   pub first-room : Small h → (v : ℕ) (next : Fraction) → level v ≡ start m h → next ≡ round h (level v)
       → v * next.denominator ≤ 2048 * 2199023255552
   first-room small v next is-start is-round =
-      let at : v * 1 ≤ highest h * 1 = (first-within v is-start).to-highest in
+      let at : v * 1 ≤ highest h * 1 = (first-within v is-start).to_highest in
       let most : v ≤ 2048 = omega (arith, highest-below h some, small.levels) in
-      rw is-round (mul-le-mul most (denominator-small h (level v) small))
+      rw is-round (mul-le-mul most (denominator_small h (level v) small))
 
   -- and is told from the first round by its pair
   pub going-first : (v : ℕ) (next : Fraction) → level v ≡ start m h → next ≡ round h (level v)
@@ -45,10 +45,10 @@ module _ (m : ℕ) (h : List ℕ) (some : 0 < total h) where
   unfolding threshold
   going-first v next is-start is-round =
       record {
-        is-next = is-round ∙ ap (round h) is-start;
-        not-before = λ j r. zero-le;
-        same-rests = λ e. given_back h some m 0 (rw (← is-start, ← is-round) (omega (arith, ap (λ (T : Fraction). T.numerator) e)));
-        rests-same = λ r.
+        is_next = is-round ∙ ap (round h) is-start;
+        not_before = λ j r. zero-le;
+        same_rests = λ e. given_back h some m 0 (rw (← is-start, ← is-round) (omega (arith, ap (λ (T : Fraction). T.numerator) e)));
+        rests_same = λ r.
             let still : Equal (round h (start m h)) (start m h) = r.still in
             let e : next.numerator * 1 ≡ v * next.denominator = rw (← is-start, ← is-round) at still in
             let f : v * next.denominator ≡ next.numerator = omega arith in
@@ -57,24 +57,24 @@ module _ (m : ℕ) (h : List ℕ) (some : 0 < total h) where
 
   -- from the next threshold a round can be made
   pub next-within : {k : ℕ} {t next : Fraction} → Going m h k t next → Within h next
-  next-within {k} g = rw g.is-next (threshold-within h some m (suc k))
+  next-within {k} g = rw g.is_next (threshold-within h some m (suc k))
 
   -- one round more
   pub going_on : (k : ℕ) (t next after : Fraction) → Going m h k t next → ¬ (t ≡ next) → after ≡ round h next → Going m h (k + 1) next after
   unfolding threshold
   going_on k t next after g moved is-round =
       record {
-        is-next = rw (add-one k) (is-round ∙ ap (round h) g.is-next);
-        not-before = rw (add-one k) (not_yet g.not-before (λ r. moved (g.rests-same r)));
-        same-rests = λ e. rw (add-one k) (given_back h some m (suc k) (rw (← g.is-next, ← is-round, e) refl));
-        rests-same = λ r. g.is-next ∙ sym (same-again (rw (add-one k) at r)) ∙ ap (round h) (sym g.is-next) ∙ sym is-round;
+        is_next = rw (add-one k) (is-round ∙ ap (round h) g.is_next);
+        not_before = rw (add-one k) (not_yet g.not_before (λ r. moved (g.rests_same r)));
+        same_rests = λ e. rw (add-one k) (given_back h some m (suc k) (rw (← g.is_next, ← is-round, e) refl));
+        rests_same = λ r. g.is_next ∙ sym (same-again (rw (add-one k) at r)) ∙ ap (round h) (sym g.is_next) ∙ sym is-round;
       }
     where
       same-again : RestsAt m h (suc k) → round h (threshold m h (suc k)) ≡ round h (threshold m h k)
       same-again r =
           let w = threshold-within h some m (suc k) in
           let u = threshold-within h some m k in
-          same-pair h (threshold m h (suc k)) (threshold m h k) w.proper u.proper
+          same_pair h (threshold m h (suc k)) (threshold m h k) w.proper u.proper
           (low-some h some (threshold m h (suc k)) w) (high-some h some (threshold m h (suc k)) w)
           (low-some h some (threshold m h k) u) (high-some h some (threshold m h k) u)
           r.still
@@ -83,7 +83,7 @@ module _ (m : ℕ) (h : List ℕ) (some : 0 < total h) where
   pub still-time : (k : ℕ) (t next : Fraction) → Going m h k t next → ¬ (t ≡ next) → k < 2 * length h - 1
   still-time k t next g moved =
       let r = comes-to-rest h some m in
-      omega (arith, r.1, not_yet g.not-before (λ now. moved (g.rests-same now)) r.0 r.2)
+      omega (arith, r.1, not_yet g.not_before (λ now. moved (g.rests_same now)) r.0 r.2)
 
   -- at rest
   pub going-ends : (k : ℕ) (t next : Fraction) → Going m h k t next → t ≡ next → Done m h (answered 0 k next)
@@ -91,5 +91,5 @@ module _ (m : ℕ) (h : List ℕ) (some : 0 < total h) where
   going-ends k t next g e =
       record {
         number = refl;
-        settled = rw g.is-next (settled m h some k (record { holds = g.same-rests e; least = g.not-before }));
+        settled = rw g.is_next (settled m h some k (record { holds = g.same_rests e; least = g.not_before }));
       }

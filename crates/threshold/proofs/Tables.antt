@@ -11,70 +11,70 @@ use lib.ListN.{length, get_or, set}
 use borrow.Author.Tests.{le-leb, lt-leb}
 use Rattle.arithmetic.specs.declared.Fraction.{Fraction}
 use Rattle.arithmetic.specs.Lists.{AtMost}
-use Rattle.arithmetic.specs.Sums.{sum, sumOver}
+use Rattle.arithmetic.specs.Sums.{sum, sum_over}
 use Rattle.arithmetic.specs.Fractions.{fraction, Proper}
-use Rattle.arithmetic.proofs.Lists.{Written, written_none, written-more}
-use Rattle.arithmetic.proofs.Sums.{sum-none, sum_more, sum-most, sum_same, sum-part}
+use Rattle.arithmetic.proofs.Lists.{Written, written_none, written_more}
+use Rattle.arithmetic.proofs.Sums.{sum_none, sum_more, sum_most, sum_same, sum_part}
 use Rattle.threshold.specs.Histogram.{count_of, total}
-use Rattle.threshold.specs.TwoMeans.{highest, low, high, levelSum, round, Within}
+use Rattle.threshold.specs.TwoMeans.{highest, low, high, level_sum, round, Within}
 use Rattle.threshold.specs.inside.Asked.{Filled, Tables, Small}
 use Rattle.threshold.proofs.Present.{highest-below}
-use Rattle.threshold.proofs.Picks.{over-rest, over-part}
-use Rattle.threshold.proofs.Rounds.{lowSum, lowNumber, highSum, highNumber}
+use Rattle.threshold.proofs.Picks.{over_rest, over_part}
+use Rattle.threshold.proofs.Rounds.{low_sum, low_number, high_sum, high_number}
 
 -- each of n levels is below n: so is their mean
-sum-of-levels : (n : ℕ) (f : ℕ → ℕ) → sum n (λ v. v * f v) ≤ n * sum n f
+sum_of_levels : (n : ℕ) (f : ℕ → ℕ) → sum n (λ v. v * f v) ≤ n * sum n f
 unfolding sum
-sum-of-levels zero f = omega arith
-sum-of-levels (suc n) f = omega (arith, sum-of-levels n f, suc-mul n (sum n f + f n), mul-add n (sum n f) (f n))
+sum_of_levels zero f = omega arith
+sum_of_levels (suc n) f = omega (arith, sum_of_levels n f, suc-mul n (sum n f + f n), mul-add n (sum n f) (f n))
 
 -- ---- filling
 -- the tables are right up to level v, and its two numbers are at hand
 pub record Filling (h : List ℕ) (v : ℕ) (below sums : List ℕ) (number added : ℕ) : Type 0 where
   pub filled : Filled h v below sums
   pub number_is : number ≡ sum v (count_of h)
-  pub added_is : added ≡ sum v (levelSum h)
+  pub added_is : added ≡ sum v (level_sum h)
 
 -- what stands at place v of either
-abbrev numberBelow : List ℕ → ℕ → ℕ
-numberBelow h v = sum v (count_of h)
+abbrev number_below : List ℕ → ℕ → ℕ
+number_below h v = sum v (count_of h)
 
-abbrev sumBelow : List ℕ → ℕ → ℕ
-sumBelow h v = sum v (levelSum h)
+abbrev sum_below : List ℕ → ℕ → ℕ
+sum_below h v = sum v (level_sum h)
 
 -- the places of a table up to v are written
 abbrev Table : (ℕ → ℕ) → List ℕ → List ℕ → ℕ → Type 0
 Table f h table v = Written f (length h + 1) table (v + 1)
 
 -- where those of both are, the two are right up to level v
-right-up-to : {h below sums : List ℕ} {v : ℕ} → Table (numberBelow h) h below v → Table (sumBelow h) h sums v → Filled h v below sums
-right-up-to n s =
+right_up_to : {h below sums : List ℕ} {v : ℕ} → Table (number_below h) h below v → Table (sum_below h) h sums v → Filled h v below sums
+right_up_to n s =
     record {
-      below-long = n.places;
-      sums-long = s.places;
-      below-are = λ k b. n.are k (omega arith);
-      sums-are = λ k b. s.are k (omega arith);
+      below_long = n.places;
+      sums_long = s.places;
+      below_are = λ k b. n.are k (omega arith);
+      sums_are = λ k b. s.are k (omega arith);
     }
 
 -- and where the two are right, those of both are written
 module _ {h below sums : List ℕ} {v : ℕ} (f : Filled h v below sums) where
-  below-written : Table (numberBelow h) h below v
-  below-written = record { places = f.below-long; are = λ k b. f.below-are k (omega arith) }
+  below-written : Table (number_below h) h below v
+  below-written = record { places = f.below_long; are = λ k b. f.below_are k (omega arith) }
 
-  sums-written : Table (sumBelow h) h sums v
-  sums-written = record { places = f.sums-long; are = λ k b. f.sums-are k (omega arith) }
+  sums-written : Table (sum_below h) h sums v
+  sums-written = record { places = f.sums_long; are = λ k b. f.sums_are k (omega arith) }
 
 -- nothing lies below level 0
-pub filling-none : (h below sums : List ℕ) → length below ≡ length h + 1 → length sums ≡ length h + 1
+pub filling_none : (h below sums : List ℕ) → length below ≡ length h + 1 → length sums ≡ length h + 1
     → Filling h 0 (set below 0 0) (set sums 0 0) 0 0
-filling-none h below sums long-below long-sums =
-    let number_is : 0 ≡ numberBelow h 0 = sym (sum-none (count_of h)) in
-    let added_is : 0 ≡ sumBelow h 0 = sym (sum-none (levelSum h)) in
+filling_none h below sums long-below long-sums =
+    let number_is : 0 ≡ number_below h 0 = sym (sum_none (count_of h)) in
+    let added_is : 0 ≡ sum_below h 0 = sym (sum_none (level_sum h)) in
     record {
       filled =
-          right-up-to
-          (written-more (numberBelow h) below 0 0 (omega arith) number_is (written_none (numberBelow h) below long-below))
-          (written-more (sumBelow h) sums 0 0 (omega arith) added_is (written_none (sumBelow h) sums long-sums));
+          right_up_to
+          (written_more (number_below h) below 0 0 (omega arith) number_is (written_none (number_below h) below long-below))
+          (written_more (sum_below h) sums 0 0 (omega arith) added_is (written_none (sum_below h) sums long-sums));
       number_is = number_is;
       added_is = added_is;
     }
@@ -82,21 +82,21 @@ filling-none h below sums long-below long-sums =
 -- what a turn adds fits 64 bits
 pub record Room (h : List ℕ) (v number added : ℕ) : Type 0 where
   pub number_fits : number + count_of h v ≤ 8796093020160
-  pub level-sum-fits : levelSum h v ≤ 8796093020160
-  pub added-fits : added + levelSum h v ≤ 18014398505287680
+  pub level_sum_fits : level_sum h v ≤ 8796093020160
+  pub added_fits : added + level_sum h v ≤ 18014398505287680
 
 module _ {h below sums : List ℕ} {v number added : ℕ} (so_far : Filling h v below sums number added) where
   -- one level more
-  pub filling-more : v < length h → let number' = number + count_of h v in let added' = added + levelSum h v in
+  pub filling-more : v < length h → let number' = number + count_of h v in let added' = added + level_sum h v in
       Filling h (v + 1) (set below (v + 1) number') (set sums (v + 1) added') number' added'
   filling-more turn =
-      let number_is : number + count_of h v ≡ numberBelow h (v + 1) = omega (arith, so_far.number_is, sum_more v (count_of h)) in
-      let added_is : added + levelSum h v ≡ sumBelow h (v + 1) = omega (arith, so_far.added_is, sum_more v (levelSum h)) in
+      let number_is : number + count_of h v ≡ number_below h (v + 1) = omega (arith, so_far.number_is, sum_more v (count_of h)) in
+      let added_is : added + level_sum h v ≡ sum_below h (v + 1) = omega (arith, so_far.added_is, sum_more v (level_sum h)) in
       record {
         filled =
-            right-up-to
-            (written-more (numberBelow h) below (v + 1) _ (omega arith) number_is (below-written so_far.filled))
-            (written-more (sumBelow h) sums (v + 1) _ (omega arith) added_is (sums-written so_far.filled));
+            right_up_to
+            (written_more (number_below h) below (v + 1) _ (omega arith) number_is (below-written so_far.filled))
+            (written_more (sum_below h) sums (v + 1) _ (omega arith) added_is (sums-written so_far.filled));
         number_is = number_is;
         added_is = added_is;
       }
@@ -108,12 +108,12 @@ module _ {h below sums : List ℕ} {v number added : ℕ} (so_far : Filling h v 
   -- with counts of 32 bits at 2,048 levels
   pub turn-room : AtMost 4294967295 h → length h ≤ 2048 → v < length h → Room h v number added
   turn-room counts levels turn =
-      let most : sum v (count_of h) ≤ 8796093020160 = omega (arith, sum-most 4294967295 v (count_of h) counts) in
-      let here : levelSum h v ≤ 8796093020160 = omega (arith, mul-le-mul {n₁ = v} {n₂ = 2048} (omega arith) (counts v)) in
+      let most : sum v (count_of h) ≤ 8796093020160 = omega (arith, sum_most 4294967295 v (count_of h) counts) in
+      let here : level_sum h v ≤ 8796093020160 = omega (arith, mul-le-mul {n₁ = v} {n₂ = 2048} (omega arith) (counts v)) in
       record {
-        number_fits = omega (arith, so_far.number_is, sum-most 4294967295 v (count_of h) counts, counts v);
-        level-sum-fits = here;
-        added-fits = omega (arith, so_far.added_is, sum-of-levels v (count_of h), mul-le-mul {n₁ = v} {n₂ = 2047} (omega arith) most);
+        number_fits = omega (arith, so_far.number_is, sum_most 4294967295 v (count_of h) counts, counts v);
+        level_sum_fits = here;
+        added_fits = omega (arith, so_far.added_is, sum_of_levels v (count_of h), mul-le-mul {n₁ = v} {n₂ = 2047} (omega arith) most);
       }
 
 -- ---- reading
@@ -124,13 +124,13 @@ pub record Cut (p : ℕ → Bool) (k : ℕ) : Type 0 where
 
 module _ {p : ℕ → Bool} {k : ℕ} (cut : Cut p k) (f : ℕ → ℕ) where
   -- d levels more, which it does not pick
-  cut-then : (d : ℕ) → sumOver (k + d) p f ≡ sum k f
-  unfolding sum sumOver
+  cut-then : (d : ℕ) → sum_over (k + d) p f ≡ sum k f
+  unfolding sum sum_over
   cut-then zero = let e : k + 0 ≡ k = omega arith in rw e (sum_same k (λ v. cond (p v) (f v) 0) f (λ v b. rw (cut.below v b)))
   cut-then (suc d) = let e : k + suc d ≡ suc (k + d) = omega arith in rw (e, cut.past (k + d) (omega arith)) (omega (arith, cut-then d))
 
   -- it sums up what lies below k
-  cut_sum : {n : ℕ} → k ≤ n → sumOver n p f ≡ sum k f
+  cut_sum : {n : ℕ} → k ≤ n → sum_over n p f ≡ sum k f
   cut_sum {n} in-it = let e : n ≡ k + (n - k) = omega arith in rw e (cut-then (n - k))
 
 -- T's whole part
@@ -175,20 +175,20 @@ module _ (T : Fraction) (proper : Proper T) where
 
 -- where a round reads the tables: at the first level past T, and at the first that is not below T
 pub record Places (h : List ℕ) (T : Fraction) (from : ℕ) : Type 0 where
-  pub up-to-in : whole T + 1 ≤ length h
+  pub up_to_in : whole T + 1 ≤ length h
   pub from_in : from ≤ length h
-  pub up-to-is : Cut (low T) (whole T + 1)
+  pub up_to_is : Cut (low T) (whole T + 1)
   pub from_is : Cut (λ v. not (high T v)) from
 
 module _ (h : List ℕ) (T : Fraction) (some : 0 < total h) (within : Within h T) where
   -- T's whole part is a level
   pub whole_in : whole T + 1 ≤ length h
   whole_in =
-      let to-highest : whole T < highest h + 1 = (div-lt_iff_lt-mul within.proper).1 (omega (arith, within.to-highest)) in
+      let to_highest : whole T < highest h + 1 = (div-lt_iff_lt-mul within.proper).1 (omega (arith, within.to_highest)) in
       omega (arith, highest-below h some)
 
   placed : {from : ℕ} → from ≤ whole T + 1 → Cut (λ v. not (high T v)) from → Places h T from
-  placed le is = record { up-to-in = whole_in; from_in = le_trans le whole_in; up-to-is = low-cut T within.proper; from_is = is }
+  placed le is = record { up_to_in = whole_in; from_in = le_trans le whole_in; up_to_is = low-cut T within.proper; from_is = is }
 
   -- T is a level itself, or it is not
   pub places-whole : {from : ℕ} → whole T * T.denominator ≡ T.numerator → from ≡ whole T → Places h T from
@@ -200,43 +200,43 @@ module _ (h : List ℕ) (T : Fraction) (some : 0 < total h) (within : Within h T
 -- what is read there, from either table
 module _ (f : ℕ → ℕ) (h table : List ℕ) (right : (v : ℕ) → v ≤ length h → get_or table v 0 ≡ sum v f) {T : Fraction} {from : ℕ}
     (at : Places h T from) where
-  low_read : get_or table (whole T + 1) 0 ≡ sumOver (length h) (low T) f
-  low_read = right (whole T + 1) at.up-to-in ∙ sym (cut_sum at.up-to-is f at.up-to-in)
+  low_read : get_or table (whole T + 1) 0 ≡ sum_over (length h) (low T) f
+  low_read = right (whole T + 1) at.up_to_in ∙ sym (cut_sum at.up_to_is f at.up_to_in)
 
-  high_read : get_or table from 0 + sumOver (length h) (high T) f ≡ get_or table (length h) 0
+  high_read : get_or table from 0 + sum_over (length h) (high T) f ≡ get_or table (length h) 0
   high_read =
       omega (
         arith,
         right from at.from_in,
         right (length h) (le_refl (length h)),
-        over-rest (length h) (high T) f,
+        over_rest (length h) (high T) f,
         cut_sum at.from_is f at.from_in,
       )
 
 -- past the last level the first table has the total
-pub total-read : {h below sums : List ℕ} {n : ℕ} → length h ≡ n → Tables h below sums → get_or below n 0 ≡ total h
+pub total_read : {h below sums : List ℕ} {n : ℕ} → length h ≡ n → Tables h below sums → get_or below n 0 ≡ total h
 unfolding total
-total-read {h} levels tables = rw (← levels) (tables.below-are (length h) (le_refl (length h)))
+total_read {h} levels tables = rw (← levels) (tables.below_are (length h) (le_refl (length h)))
 
 -- with at most 2,048 levels and a total of at most 1,048,576, what is read is small
 module _ {h : List ℕ} (small : Small h) {k : ℕ} (in-it : k ≤ length h) where
   number_small : sum k (count_of h) ≤ 1048576
   unfolding total
-  number_small = le_trans (sum-part (count_of h) in-it) small.values
+  number_small = le_trans (sum_part (count_of h) in-it) small.values
 
-  sum-small : sum k (levelSum h) ≤ 2147483648
-  sum-small = omega (arith, sum-of-levels k (count_of h), mul-le-mul {n₁ = k} {n₂ = 2048} (omega (arith, small.levels)) number_small)
+  sum-small : sum k (level_sum h) ≤ 2147483648
+  sum-small = omega (arith, sum_of_levels k (count_of h), mul-le-mul {n₁ = k} {n₂ = 2048} (omega (arith, small.levels)) number_small)
 
 -- A, B, C, E of a round, and that what is made of them fits 64 bits
 pub record Read (h : List ℕ) (T : Fraction) (a b c e : ℕ) : Type 0 where
-  pub a-is : a ≡ lowSum h T
-  pub b-is : b ≡ lowNumber h T
-  pub c-is : c ≡ highSum h T
-  pub e-is : e ≡ highNumber h T
-  pub b-small : b ≤ 1048576
-  pub ae-small : a * e ≤ 2251799813685248
-  pub cb-small : c * b ≤ 2251799813685248
-  pub be-small : b * e ≤ 1099511627776
+  pub a_is : a ≡ low_sum h T
+  pub b_is : b ≡ low_number h T
+  pub c_is : c ≡ high_sum h T
+  pub e_is : e ≡ high_number h T
+  pub b_small : b ≤ 1048576
+  pub ae_small : a * e ≤ 2251799813685248
+  pub cb_small : c * b ≤ 2251799813685248
+  pub be_small : b * e ≤ 1099511627776
 
 -- as they are read from the tables
 abbrev pub ReadFrom : List ℕ → List ℕ → List ℕ → Fraction → ℕ → Type 0
@@ -250,40 +250,40 @@ ReadFrom h below sums T from =
 module _ {h below sums : List ℕ} (tables : Tables h below sums) {T : Fraction} {from : ℕ} (at : Places h T from) where
   -- nothing is taken from less
   pub sums-in : get_or sums from 0 ≤ get_or sums (length h) 0
-  sums-in = omega (arith, high_read (levelSum h) h sums tables.sums-are at)
+  sums-in = omega (arith, high_read (level_sum h) h sums tables.sums_are at)
 
   pub below_in : get_or below from 0 ≤ get_or below (length h) 0
-  below_in = omega (arith, high_read (count_of h) h below tables.below-are at)
+  below_in = omega (arith, high_read (count_of h) h below tables.below_are at)
 
   pub read : Small h → ReadFrom h below sums T from
   read small =
       let n = length h in
       let u = whole T + 1 in
       let all : n ≤ n = le_refl n in
-      let a_small : get_or sums u 0 ≤ 2147483648 = omega (arith, tables.sums-are u at.up-to-in, sum-small small at.up-to-in) in
-      let b-small : get_or below u 0 ≤ 1048576 = omega (arith, tables.below-are u at.up-to-in, number_small small at.up-to-in) in
-      let c-small : get_or sums n 0 - get_or sums from 0 ≤ 2147483648 = omega (arith, tables.sums-are n all, sum-small small all) in
-      let e-small : get_or below n 0 - get_or below from 0 ≤ 1048576 = omega (arith, tables.below-are n all, number_small small all) in
+      let a_small : get_or sums u 0 ≤ 2147483648 = omega (arith, tables.sums_are u at.up_to_in, sum-small small at.up_to_in) in
+      let b_small : get_or below u 0 ≤ 1048576 = omega (arith, tables.below_are u at.up_to_in, number_small small at.up_to_in) in
+      let c-small : get_or sums n 0 - get_or sums from 0 ≤ 2147483648 = omega (arith, tables.sums_are n all, sum-small small all) in
+      let e-small : get_or below n 0 - get_or below from 0 ≤ 1048576 = omega (arith, tables.below_are n all, number_small small all) in
       record {
-        a-is = low_read (levelSum h) h sums tables.sums-are at;
-        b-is = low_read (count_of h) h below tables.below-are at;
-        c-is = omega (arith, high_read (levelSum h) h sums tables.sums-are at);
-        e-is = omega (arith, high_read (count_of h) h below tables.below-are at);
-        b-small = b-small;
-        ae-small = mul-le-mul a_small e-small;
-        cb-small = mul-le-mul c-small b-small;
-        be-small = mul-le-mul b-small e-small;
+        a_is = low_read (level_sum h) h sums tables.sums_are at;
+        b_is = low_read (count_of h) h below tables.below_are at;
+        c_is = omega (arith, high_read (level_sum h) h sums tables.sums_are at);
+        e_is = omega (arith, high_read (count_of h) h below tables.below_are at);
+        b_small = b_small;
+        ae_small = mul-le-mul a_small e-small;
+        cb_small = mul-le-mul c-small b_small;
+        be_small = mul-le-mul b_small e-small;
       }
 
 -- the next threshold is made of them
 pub round_is : {h : List ℕ} {T : Fraction} {a b c e : ℕ} → Read h T a b c e → fraction (a * e + c * b) (2 * b * e) ≡ round h T
 unfolding round
-round_is r i = fraction (r.a-is i * r.e-is i + r.c-is i * r.b-is i) (2 * r.b-is i * r.e-is i)
+round_is r i = fraction (r.a_is i * r.e_is i + r.c_is i * r.b_is i) (2 * r.b_is i * r.e_is i)
 
 -- and its denominator, twice the product of two numbers of values, is small
-pub denominator-small : (h : List ℕ) (T : Fraction) → Small h → (round h T).denominator ≤ 2199023255552
+pub denominator_small : (h : List ℕ) (T : Fraction) → Small h → (round h T).denominator ≤ 2199023255552
 unfolding round
-denominator-small h T small = omega (arith, mul-le-mul (number-most (low T)) (number-most (high T)))
+denominator_small h T small = omega (arith, mul-le-mul (number-most (low T)) (number-most (high T)))
   where
-    number-most : (p : ℕ → Bool) → sumOver (length h) p (count_of h) ≤ 1048576
-    number-most p = le_trans (over-part (length h) p (count_of h)) (number_small small (le_refl (length h)))
+    number-most : (p : ℕ → Bool) → sum_over (length h) p (count_of h) ≤ 1048576
+    number-most p = le_trans (over_part (length h) p (count_of h)) (number_small small (le_refl (length h)))

@@ -5,8 +5,8 @@ use Rattle.arithmetic.specs.Lists.{AtMost}
 use Rattle.arithmetic.specs.Sums.{sum}
 
 -- "each filtered value adds one at its eighths divided by 8, rounded down": what the values add at level v
-unfoldable pub addedAt : List ℕ → ℕ → ℕ
-addedAt values v = sum (length values) (λ i. cond (eqb (get_or values i 0 / 8) v) 1 0)
+unfoldable pub added_at : List ℕ → ℕ → ℕ
+added_at values v = sum (length values) (λ i. cond (eqb (get_or values i 0 / 8) v) 1 0)
 
 -- A histogram is the list of its counts, from that of level 0 on.
 abbrev pub count_of : List ℕ → ℕ → ℕ
@@ -35,8 +35,8 @@ tally n h = record { number = n; histogram = h }
 pub record Counted (values : List ℕ) (r : Tally) : Type 0 where
   pub number : r.number ≡ 0
   pub places : length r.histogram ≡ 256
-  pub counts : (v : ℕ) → v < 256 → count_of r.histogram v ≡ addedAt values v
-  pub total-is : total r.histogram ≡ length values
+  pub counts : (v : ℕ) → v < 256 → count_of r.histogram v ≡ added_at values v
+  pub total_is : total r.histogram ≡ length values
 
 -- "histogram not 256 long", "the values to be counted, out of range", and "nothing written" in both cases
 abbrev pub CountIs : List ℕ → List ℕ → Tally → Type 0

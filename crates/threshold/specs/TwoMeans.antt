@@ -5,7 +5,7 @@ use Rattle.std.specs.Prelude.{◌≡◌, Bool, cond, List, [], ◌∷◌, ◌⊎
 use Rattle.arithmetic.specs.declared.Fraction.{Fraction}
 use Rattle.answers.specs.Refusals.{Unless}
 use Rattle.arithmetic.specs.Greatest.{Least}
-use Rattle.arithmetic.specs.Sums.{sumOver}
+use Rattle.arithmetic.specs.Sums.{sum_over}
 use Rattle.arithmetic.specs.Fractions.{fraction, Proper, Equal, NotMore}
 use Rattle.threshold.specs.declared.Threshold.{Threshold}
 use Rattle.threshold.specs.Histogram.{count_of, total}
@@ -38,26 +38,26 @@ abbrev pub high : Fraction → ℕ → Bool
 high T v = leb T.numerator (v * T.denominator)
 
 -- what a level adds to the sum of the levels: itself, as often as it was counted
-abbrev pub levelSum : List ℕ → ℕ → ℕ
-levelSum h v = v * count_of h v
+abbrev pub level_sum : List ℕ → ℕ → ℕ
+level_sum h v = v * count_of h v
 
 -- "the mean" of the levels that are picked: "the sum and number of levels" as a fraction
 abbrev pub mean : List ℕ → (ℕ → Bool) → Fraction
-mean h picked = fraction (sumOver (length h) picked (levelSum h)) (sumOver (length h) picked (count_of h))
+mean h picked = fraction (sum_over (length h) picked (level_sum h)) (sum_over (length h) picked (count_of h))
 
 -- "half the sum" of A/B and C/E: "numerator A·E + C·B, denominator 2·B·E, not reduced"
-abbrev pub halfSum : Fraction → Fraction → Fraction
-halfSum L H = fraction (L.numerator * H.denominator + H.numerator * L.denominator) (2 * L.denominator * H.denominator)
+abbrev pub half_sum : Fraction → Fraction → Fraction
+half_sum L H = fraction (L.numerator * H.denominator + H.numerator * L.denominator) (2 * L.denominator * H.denominator)
 
 -- "One round replaces T by half the sum of the mean of all levels ≤ T and the mean of all levels ≥ T"
 unfoldable pub round : List ℕ → Fraction → Fraction
-round h T = halfSum (mean h (low T)) (mean h (high T))
+round h T = half_sum (mean h (low T)) (mean h (high T))
 
 -- "T is an exact fraction", "T lies from g to G"
 pub record Within (h : List ℕ) (T : Fraction) : Type 0 where
   pub proper : Proper T
   pub from_lowest : NotMore (level (lowest h)) T
-  pub to-highest : NotMore T (level (highest h))
+  pub to_highest : NotMore T (level (highest h))
 
 -- "Rest means that T lies from g to G and a round gives T back"
 pub record Rests (h : List ℕ) (T : Fraction) : Type 0 where
@@ -80,7 +80,7 @@ pub record Settled (m : ℕ) (h : List ℕ) (k : ℕ) (T : Fraction) : Type 0 wh
   -- "With A, B the sum and number of levels ≤ the resting T, and C, E those ≥ T, the answer is numerator A·E + C·B, denominator 2·B·E"
   pub answer : T ≡ round h (threshold m h k)
   -- it "rests after at most 511 rounds" where there are 256 levels: twice as many, less 1
-  pub in-time : k ≤ 2 * length h - 1
+  pub in_time : k ≤ 2 * length h - 1
   -- "it is exactly the midpoint of the two means": it rests, and a round from it is it, and not only a pair that equals it
   pub rests : Rests h T
   pub midpoint : round h T ≡ T

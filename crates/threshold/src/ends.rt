@@ -2,7 +2,7 @@
 // 128, or g if 128 < g, or G if 128 > G").
 ghost use Rattle.std.specs.Prelude.{◌≡◌, ◌<◌};
 ghost use Rattle.threshold.specs.Histogram.{total};
-ghost use Rattle.threshold.specs.TwoMeans.{level, lowest as lowestOf, highest as highestOf, start as start_of};
+ghost use Rattle.threshold.specs.TwoMeans.{level, lowest as lowest_of, highest as highest_of, start as start_of};
 
 // The start: the usual one, or the nearest end of the levels present.
 pub(crate) fn start(histogram: &[u32], usual: usize) -> usize
@@ -23,7 +23,7 @@ pub(crate) fn start(histogram: &[u32], usual: usize) -> usize
 // Nothing stops the search at the histogram's end: its total is not 0, so some level is counted.
 fn lowest(histogram: &[u32]) -> usize
     requires { 0 < total histogram.now }
-    ensures { result ≡ lowestOf histogram.now }
+    ensures { result ≡ lowest_of histogram.now }
 {
     let mut v = 0usize;
     while histogram[v] == 0 {
@@ -35,7 +35,7 @@ fn lowest(histogram: &[u32]) -> usize
 // Nor this one, at level 0.
 fn highest(histogram: &[u32]) -> usize
     requires { 0 < total histogram.now }
-    ensures { result ≡ highestOf histogram.now }
+    ensures { result ≡ highest_of histogram.now }
 {
     let mut v = histogram.len() - 1;
     while histogram[v] == 0 {

@@ -2,7 +2,7 @@
 // mean of all levels ≤ T and the mean of all levels ≥ T").
 ghost use Rattle.std.specs.Prelude.{◌≡◌};
 ghost use Rattle.arithmetic.specs.inside.Pairs.{unlike};
-ghost use Rattle.threshold.specs.TwoMeans.{round as roundOf, Done};
+ghost use Rattle.threshold.specs.TwoMeans.{round as round_of, Done};
 ghost use Rattle.threshold.specs.inside.Asked.{Places, Tables, Ready, Rounds};
 
 use crate::{Threshold, ends};
@@ -34,7 +34,7 @@ pub(crate) fn fill(histogram: &[u32], below: &mut [u64], sums: &mut [u64])
 // from t on are those that are not below t, rounded up.
 fn round(histogram: &[u32], below: &[u64], sums: &[u64], t: Fraction) -> Fraction
     requires { Rounds histogram.now below.now sums.now t }
-    ensures { result ≡ roundOf histogram.now t }
+    ensures { result ≡ round_of histogram.now t }
 {
     let end = histogram.len();
     let whole = t.numerator / t.denominator;

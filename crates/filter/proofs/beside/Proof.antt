@@ -3,7 +3,7 @@ use mathlib.Core.Path.{refl}
 use mathlib.Core.Logic.{inl}
 use native.Mathlib.Omega.{arith}
 use Rattle.answers.proofs.Refusals.{goes_on}
-use Rattle.filter.proofs.RowOutcomes.{beside-is}
+use Rattle.filter.proofs.RowOutcomes.{beside_is}
 use Rattle.filter.proofs.beside.Statement.{statement}
 use Rattle.filter.proofs.beside.Tie as tie
 
@@ -11,4 +11,4 @@ pub beside-spec : {M : Type 1} → statement M
 beside-spec =
     tie.close
     (tie.spec
-    (λ c. goes_on (inl (omega arith)) refl) (λ c. beside-is c.before.args.n c.before.args.values c.if1.false))
+    (λ c. goes_on (inl (omega arith)) refl) (λ c. beside_is c.before.args.n c.before.args.values c.if1.false))

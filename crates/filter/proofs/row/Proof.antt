@@ -6,9 +6,9 @@ use Prim.Native.Nat.{ℕ}
 use native.Mathlib.Omega.{arith}
 use borrow.Author.Rules.{rules}
 use lib.ListN.{length}
-use Rattle.answers.proofs.Refusals.{stops, goes_on, told-no, told-yes}
+use Rattle.answers.proofs.Refusals.{stops, goes_on, told_no, told_yes}
 use Rattle.filter.specs.Row.{Beside}
-use Rattle.filter.proofs.RowOutcomes.{RowFits, row-asks, row_done}
+use Rattle.filter.proofs.RowOutcomes.{RowFits, row_asks, row_done}
 use Rattle.filter.proofs.row.Statement.{statement}
 use Rattle.filter.proofs.row.Tie as tie
 
@@ -38,8 +38,8 @@ module _ (past-beside : tie.Else2) where
       Beside n (length (above after-beside)) × Beside n (length (below after-beside))
   both-fit =
       let past-above = past-beside.before.before in (
-        told-yes after-beside.beside.ensures past-above.if1.left,
-        told-yes past-beside.before.beside2.ensures past-beside.if2.left,
+        told_yes after-beside.beside.ensures past-above.if1.left,
+        told_yes past-beside.before.beside2.ensures past-beside.if2.left,
       )
 
 -- no number refuses
@@ -53,14 +53,14 @@ module _ (past-small : tie.Else4) where
   fits : let tested = after-beside past-beside in RowFits (above tested) (here tested) (below tested) output
   fits = record {
     beside = both-fit past-beside;
-    long-output = omega arith;
-    small = told-yes past-small.before.small.ensures past-small.if4.left;
+    long_output = omega arith;
+    small = told_yes past-small.before.small.ensures past-small.if4.left;
   }
 
 returns-4 : tie.Need-returns-4
 returns-4 c =
     goes_on (both-fit c.before.before.before)
-    (goes_on (omega arith) (stops (told-no c.before.small.ensures c.if4.true) refl))
+    (goes_on (omega arith) (stops (told_no c.before.small.ensures c.if4.true) refl))
 
 returns-5 : tie.Need-returns-5
 returns-5 c =
@@ -73,8 +73,8 @@ pub row-spec : {M : Type 1} → statement M
 row-spec =
     tie.close
     (tie.spec
-    (λ c κs. search rules) (λ c. stops (λ both. told-no c.before.beside.ensures c.if1.true both.0) refl)
-    (λ c κs. search rules) (λ c. stops (λ both. told-no c.before.beside2.ensures c.if2.true both.1) refl)
+    (λ c κs. search rules) (λ c. stops (λ both. told_no c.before.beside.ensures c.if1.true both.0) refl)
+    (λ c κs. search rules) (λ c. stops (λ both. told_no c.before.beside2.ensures c.if2.true both.1) refl)
     (λ c. goes_on (both-fit c.before) (stops (λ ok. omega arith) refl)) (λ c κs. search rules) returns-4
-    (λ c. omega arith) (λ c. sym (row-asks (fits c.before)).room) (λ c κs. row-asks (fits c.before)) (λ c. search rules)
+    (λ c. omega arith) (λ c. sym (row_asks (fits c.before)).room) (λ c κs. row_asks (fits c.before)) (λ c. search rules)
     returns-5)

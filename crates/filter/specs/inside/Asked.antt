@@ -4,7 +4,7 @@ use Rattle.std.proofs.Math.Seq.{slice}
 use Rattle.arithmetic.specs.Lists.{AtMost}
 use Rattle.picture.specs.Picture.{Side}
 use Rattle.filter.specs.Median.{row_of}
-use Rattle.filter.specs.Filter.{passTwo, passThree}
+use Rattle.filter.specs.Filter.{pass_two, pass_three}
 use Rattle.filter.specs.Row.{Beside}
 
 -- ---- rows
@@ -15,24 +15,24 @@ pub record Row (n : ℕ) (row : List ℕ) : Type 0 where
 
 -- two rows of one length
 pub record Two (upper lower : List ℕ) : Type 0 where
-  pub upper-row : Row (length upper) upper
-  pub lower-row : Row (length upper) lower
+  pub upper_row : Row (length upper) upper
+  pub lower_row : Row (length upper) lower
   pub some : 1 ≤ length upper
 
 -- three
 pub record Three (above here below : List ℕ) : Type 0 where
-  pub above-row : Row (length here) above
-  pub here-row : Row (length here) here
+  pub above_row : Row (length here) above
+  pub here_row : Row (length here) here
   pub below_row : Row (length here) below
   pub some : 1 ≤ length here
 
 -- a row, and those above and below it that are there
 pub record Around (above here below : List ℕ) : Type 0 where
-  pub above-fits : Beside (length here) (length above)
-  pub below-fits : Beside (length here) (length below)
-  pub above-small : AtMost 1_020 above
-  pub here-small : AtMost 1_020 here
-  pub below-small : AtMost 1_020 below
+  pub above_fits : Beside (length here) (length above)
+  pub below_fits : Beside (length here) (length below)
+  pub above_small : AtMost 1_020 above
+  pub here_small : AtMost 1_020 here
+  pub below_small : AtMost 1_020 below
 
 -- such rows, and room for one more
 pub record Onto (Rows : Type 0) (here out : List ℕ) : Type 0 where
@@ -50,8 +50,8 @@ pub record Columns (Rows : Type 0) (here : List ℕ) (first count : ℕ) : Type 
 abbrev pub cut : ℕ → ℕ → List ℕ → List ℕ
 cut first count row = slice first (first + count) row
 
-abbrev pub cutThree : ℕ → ℕ → List ℕ → List ℕ → List ℕ → List ℕ
-cutThree first count above here below = cut first count above ++ cut first count here ++ cut first count below
+abbrev pub cut_three : ℕ → ℕ → List ℕ → List ℕ → List ℕ → List ℕ
+cut_three first count above here below = cut first count above ++ cut first count here ++ cut first count below
 
 -- columns of a row, and room for them behind the first n of t
 pub record Gathers (t : List ℕ) (n : ℕ) (row : List ℕ) (first count : ℕ) : Type 0 where
@@ -94,11 +94,11 @@ pub record PassRow (w j : ℕ) (values out : List ℕ) : Type 0 where
 -- levels of a picture, and buffers of its size
 pub record Buffers (w h : ℕ) (levels output work : List ℕ) : Type 0 where
   pub sides : Side w × Side h
-  pub all-levels : length levels ≡ w * h
-  pub output-room : length output ≡ w * h
-  pub work-room : length work ≡ w * h
+  pub all_levels : length levels ≡ w * h
+  pub output_room : length output ≡ w * h
+  pub work_room : length work ≡ w * h
 
 -- what the three passes leave in them
 pub record Passed (w h : ℕ) (levels output work : List ℕ) : Type 0 where
-  pub pass-three : output ≡ passThree w h levels
-  pub pass-two : work ≡ passTwo w h levels
+  pub is_pass_three : output ≡ pass_three w h levels
+  pub is_pass_two : work ≡ pass_two w h levels

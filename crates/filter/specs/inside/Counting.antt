@@ -1,12 +1,12 @@
 -- What the functions of median.rt ask of each other, and give back.
 use Rattle.std.specs.Prelude.{◌≡◌, List, ℕ, ◌-◌, ◌/◌, ◌≤◌, ◌<◌, length, get_or, take}
 use Rattle.arithmetic.specs.Lists.{AtMost}
-use Rattle.filter.specs.Counting.{countBelow, countAbove}
+use Rattle.filter.specs.Counting.{count_below, count_above}
 
 -- both counts of v among the levels
 pub record SidesAre (v : ℕ) (l : List ℕ) (below above : ℕ) : Type 0 where
-  pub below-is : below ≡ countBelow v l
-  pub above-is : above ≡ countAbove v l
+  pub below_is : below ≡ count_below v l
+  pub above_is : above ≡ count_above v l
 
 -- "A pixel so has 1, 2, 3, 4, 6 or 9 levels in its block."
 pub data Count : ℕ → Type 0 where
@@ -25,13 +25,13 @@ pub record Levels (t : List ℕ) (n : ℕ) : Type 0 where
 
 -- the middle ranks of n levels
 pub record MiddleRanks (n low high : ℕ) : Type 0 where
-  pub low-is : low ≡ (n - 1) / 2
+  pub low_is : low ≡ (n - 1) / 2
   pub high_is : high ≡ n / 2
 
 -- no more lie below and above than may
 pub record Few (below above low high : ℕ) : Type 0 where
-  pub few-below : below ≤ low
-  pub few-above : above ≤ high
+  pub few_below : below ≤ low
+  pub few_above : above ≤ high
 
 -- v stands at place k of the first n of t
 pub record AtPlace (t : List ℕ) (n k v : ℕ) : Type 0 where

@@ -1,11 +1,11 @@
 -- `gong::gong_judge` meets its contract, which is that of `judge::judge`. Assumes nothing.
 use borrow.Author.Rules.{rules}
-use Rattle.gong.proofs.Laws.{judged-on}
+use Rattle.gong.proofs.Laws.{judged_on}
 use Rattle.gong.proofs.gong_judge.Statement.{statement}
 use Rattle.gong.proofs.gong_judge.Tie as tie
 
 returns : tie.Need-returns
-returns c = judged-on c.before.before.of.ensures c.before.of2.ensures c.judge.ensures
+returns c = judged_on c.before.before.of.ensures c.before.of2.ensures c.judge.ensures
 
 pub gong-judge-spec : {M : Type 1} → statement M
 gong-judge-spec = tie.close (tie.spec (λ c κs. search rules) (λ c κs. search rules) (λ c κs. search rules) returns)

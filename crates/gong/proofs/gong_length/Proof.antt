@@ -4,7 +4,7 @@ use mir.Syntax.{w64}
 use mir.ValLaws.{to_z-of_z}
 use borrow.Author.Rules.{rules}
 use Rattle.units.specs.Units.{sixteenths}
-use Rattle.gong.proofs.Laws.{handed-on}
+use Rattle.gong.proofs.Laws.{handed_on}
 use Rattle.gong.proofs.gong_length.Statement.{statement}
 use Rattle.gong.proofs.gong_length.Tie as tie
 
@@ -18,7 +18,7 @@ returns : tie.Need-returns
 returns c =
     let pixel-given = c.before.before in
     let factor-given = pixel-given.before in
-    handed-on (factor factor-given) pixel-given.of2.ensures c.amount.ensures c.before.length.ensures
+    handed_on (factor factor-given) pixel-given.of2.ensures c.amount.ensures c.before.length.ensures
 
 pub gong-length-spec : {M : Type 1} → statement M
 gong-length-spec =

@@ -4,7 +4,7 @@ use mir.Syntax.{w64}
 use mir.ValLaws.{to_z-of_z}
 use borrow.Author.Rules.{rules}
 use Rattle.units.specs.Units.{sixteenths}
-use Rattle.gong.proofs.Laws.{sampled-on}
+use Rattle.gong.proofs.Laws.{sampled_on}
 use Rattle.gong.proofs.gong_sample.Statement.{statement}
 use Rattle.gong.proofs.gong_sample.Tie as tie
 
@@ -15,7 +15,7 @@ returns c =
     let at-start = x-given.before.before in
     let given = at-start.args in
     let sampled = c.before.sample in
-    sampled-on given.levels.now given.width given.height sampled.result
+    sampled_on given.levels.now given.width given.height sampled.result
     (x-given.of.ensures ∙ ap sixteenths (to_z-of_z w64 given.x at-start.ranges.x))
     (y-given.of2.ensures ∙ ap sixteenths (to_z-of_z w64 given.y at-start.ranges.y))
     (to_z-of_z w64 sampled.result.value (record { sfits = c.struct_told.given.1.0.1 }))

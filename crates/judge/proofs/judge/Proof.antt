@@ -22,7 +22,7 @@ module _ (tested : tie.After-ranges) where
       Ranged a.count a.bright a.dark a.spread
       bright-read.amount.result tested.before.amount2.result tested.ranges.result
   ranged =
-      record { is-high = bright-read.amount.ensures; is-low = tested.before.amount2.ensures; tested = tested.ranges.ensures }
+      record { is_high = bright-read.amount.ensures; is_low = tested.before.amount2.ensures; tested = tested.ranges.ensures }
 
 -- none of them stopped it
 past : (past-tests : tie.Else1)
@@ -41,6 +41,6 @@ judge-spec =
     tie.close
     (tie.spec (λ c κs. search rules) (λ c κs. search rules) (λ c κs. search rules) (λ c κs. search rules)
     (λ c. stopped (ranged c.before.before) c.before.if1.true c.refuse.ensures)
-    (λ c. omega (arith, (past c).bright-in, (past c).dark-in)) (λ c κs. let p = past c in search rules)
+    (λ c. omega (arith, (past c).bright_in, (past c).dark_in)) (λ c κs. let p = past c in search rules)
     (λ c. ratio-decides c.before (stops (λ enough. omega arith) refl))
     (λ c. ratio-decides c.before (goes_on c.if2.false refl)))

@@ -7,7 +7,7 @@ use native.Mathlib.Omega.{arith}
 use borrow.Author.Rules.{rules}
 use lib.ListN.{length}
 use lib.Seq.{length-take-le}
-use Rattle.answers.proofs.Refusals.{told-no, told-yes}
+use Rattle.answers.proofs.Refusals.{told_no, told_yes}
 use Rattle.picture.proofs.Shapes.{pixels}
 use Rattle.filter.proofs.Outcomes.{Fits, fits}
 use Rattle.judge.proofs.Measuring.{refused-for-sizes, refused-by-five, Ready, pictured, done}
@@ -34,7 +34,7 @@ module _ (past-sizes : tie.Else1) where
 returns-2 : tie.Need-returns-2
 returns-2 c =
     let width-asked = c.before.before in
-    let not-width = told-no width-asked.measurable.ensures c.before.if2.true in
+    let not-width = told_no width-asked.measurable.ensures c.before.if2.true in
     refused-by-five _ _ _ _ _ (fit width-asked.before) (λ sides. not-width sides.0) c.refuse2.ensures
 
 -- the height is
@@ -42,7 +42,7 @@ returns-3 : tie.Need-returns-3
 returns-3 c =
     let height-asked = c.before.before in
     let past-sizes = height-asked.before.before.before in
-    let not-height = told-no height-asked.measurable2.ensures c.before.if3.true in
+    let not-height = told_no height-asked.measurable2.ensures c.before.if3.true in
     refused-by-five _ _ _ _ _ (fit past-sizes) (λ sides. not-height sides.1) c.refuse3.ensures
 
 -- the picture is filtered, and both buffers are back
@@ -69,12 +69,12 @@ module _ (buffers-back : tie.After-slice-known4) where
       Ready a.levels.now a.width a.height a.output.now a.work.now
       filtered.filter.result output filtered.filter.last.1.1.1.1.0
   ready =
-      let wide = told-yes past-width.before.measurable.ensures past-width.if2.left in
-      let high = told-yes past-height.before.measurable2.ensures past-height.if3.left in
+      let wide = told_yes past-width.before.measurable.ensures past-width.if2.left in
+      let high = told_yes past-height.before.measurable2.ensures past-height.if3.left in
       record { fits = fit sizes-fit; sides = (wide, high); promise = filtered.filter.ensures }
 
   long : (at-start sizes-fit).args.width * (at-start sizes-fit).args.height ≤ length output
-  long = rw filtered.filter.kept.1.1.1.0 (fit sizes-fit).long-output
+  long = rw filtered.filter.kept.1.1.1.0 (fit sizes-fit).long_output
 
 pub measure-spec : {M : Type 1} → statement M
 measure-spec =

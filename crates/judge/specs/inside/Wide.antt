@@ -27,7 +27,7 @@ pub record Noisy (D : ℕ) : Type 0 where
 -- N, M − m and D as the judge's tests leave them
 pub record Rateable (N span D : ℕ) : Type 0 where
   pub count_most : N ≤ 1_048_576
-  pub span-most : span ≤ 32_640
+  pub span_most : span ≤ 32_640
   pub noise : Noisy D
 
 -- a power p is at most the root of D, and more than half of it

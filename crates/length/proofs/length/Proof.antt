@@ -8,7 +8,7 @@ use borrow.Author.Rules.{rules}
 use Rattle.arithmetic.specs.Signed.{nat_of}
 use Rattle.answers.proofs.Refusals.{stops}
 use Rattle.length.specs.Length.{InRange}
-use Rattle.length.proofs.Laws.{Ranged, to-natural, product, squared, start, is-the-length}
+use Rattle.length.proofs.Laws.{Ranged, to_natural, product, squared, start, is-the-length}
 use Rattle.length.proofs.length.Statement.{statement}
 use Rattle.length.proofs.length.Tie as tie
 
@@ -22,12 +22,12 @@ factor numbers =
 -- where the two are in range, none of the four tests stops the call
 passes : (numbers : tie.After-amount2) → let given = numbers.before.before.before.args in
     InRange given.factor given.pixel → Ranged numbers.before.natural.result numbers.amount2.result
-passes numbers ok = rw (factor numbers, numbers.amount2.ensures) (to-natural _ _ ok)
+passes numbers ok = rw (factor numbers, numbers.amount2.ensures) (to_natural _ _ ok)
 
 -- past the four tests both are in range
 ranged : (past-both : tie.Else4) → let past-factor = past-both.before.before in let numbers = past-factor.before.before in
     Ranged numbers.before.natural.result numbers.amount2.result
-ranged past-both = record { factor-low = omega arith; factor-high = omega arith; pixel-low = omega arith; pixel-high = omega arith }
+ranged past-both = record { factor_low = omega arith; factor_high = omega arith; pixel_low = omega arith; pixel_high = omega arith }
 
 -- from past the factor's two tests back to there
 abbrev numbers_of : tie.Else2 → tie.After-amount2

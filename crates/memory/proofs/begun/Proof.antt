@@ -5,7 +5,7 @@ use Prim.Native.Nat.{ℕ}
 use native.Mathlib.Omega.{arith}
 use borrow.Author.Rules.{rules}
 use Rattle.answers.proofs.Refusals.{stops}
-use Rattle.memory.proofs.Memories.{length-rows, begun-told}
+use Rattle.memory.proofs.Memories.{length_rows, begun_told}
 use Rattle.memory.proofs.begun.Statement.{statement}
 use Rattle.memory.proofs.begun.Tie as tie
 
@@ -18,11 +18,11 @@ memory past-sides =
     past-length.before.args.held.now
 
 in-range-requires : tie.Need-in-range-requires
-in-range-requires c κs = record { long = length-rows (memory c.before) (omega arith); wide = omega arith }
+in-range-requires c κs = record { long = length_rows (memory c.before) (omega arith); wide = omega arith }
 
 returns-6 : tie.Need-returns-6
 returns-6 c =
-    begun-told (memory c.before.before) _ (omega arith) (omega arith, omega arith) (omega arith, omega arith) c.in-range.ensures
+    begun_told (memory c.before.before) _ (omega arith) (omega arith, omega arith) (omega arith, omega arith) c.in_range.ensures
 
 pub begun-spec : {M : Type 1} → statement M
 begun-spec =

@@ -5,7 +5,7 @@ use Prim.Native.Nat.{ℕ}
 use native.Mathlib.Omega.{arith}
 use borrow.Author.Rules.{rules}
 use lib.Seq.{length-take-le}
-use Rattle.answers.proofs.Refusals.{stops, told-no, told-yes}
+use Rattle.answers.proofs.Refusals.{stops, told_no, told_yes}
 use Rattle.memory.proofs.Memories.{no-levels, no-halves, ranges-told}
 use Rattle.memory.proofs.in_range.Statement.{statement}
 use Rattle.memory.proofs.in_range.Tie as tie
@@ -21,13 +21,13 @@ module _ (levels-told : tie.After-at-most) where
 returns : tie.Need-returns
 returns c =
     let levels-told = c.before in
-    stops (no-levels (w levels-told) (rows levels-told) (told-no levels-told.at_most.ensures c.if1.true)) refl
+    stops (no-levels (w levels-told) (rows levels-told) (told_no levels-told.at_most.ensures c.if1.true)) refl
 
 returns-2 : tie.Need-returns-2
 returns-2 c =
     let past-levels = c.before.before.before in
     let levels-told = past-levels.before in
-    stops (no-halves (w levels-told) (rows levels-told) (told-no c.before.at-most2.ensures c.if2.true)) refl
+    stops (no-halves (w levels-told) (rows levels-told) (told_no c.before.at-most2.ensures c.if2.true)) refl
 
 returns-3 : tie.Need-returns-3
 returns-3 c =
@@ -36,8 +36,8 @@ returns-3 c =
     let past-levels = halves-told.before.before in
     let levels-told = past-levels.before in
     ranges-told (w levels-told) (rows levels-told) _
-    (told-yes levels-told.at_most.ensures past-levels.if1.false)
-    (told-yes halves-told.at-most2.ensures past-halves.if2.false)
+    (told_yes levels-told.at_most.ensures past-levels.if1.false)
+    (told_yes halves-told.at-most2.ensures past-halves.if2.false)
     c.at-most3.ensures
 
 pub in-range-spec : {M : Type 1} → statement M

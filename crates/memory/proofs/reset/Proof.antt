@@ -5,7 +5,7 @@ use native.Mathlib.Omega.{arith}
 use borrow.Author.Rules.{rules}
 use borrow.Rule.Slice.PartMut.{same_len_mid}
 use lib.ListN.{length, take, drop, length-set}
-use Rattle.memory.proofs.Memories.{reset-is}
+use Rattle.memory.proofs.Memories.{reset_is}
 use Rattle.memory.proofs.reset.Statement.{statement}
 use Rattle.memory.proofs.reset.Tie as tie
 
@@ -22,7 +22,7 @@ returns : tie.Need-returns
 returns c =
     let cleared = c.before.before in
     let given = (at-start cleared).args in
-    reset-is given.width given.height 0 given.held.now cleared.clear.new.0 (omega arith) cleared.clear.ensures
+    reset_is given.width given.height 0 given.held.now cleared.clear.new.0 (omega arith) cleared.clear.ensures
 
 pub reset-spec : {M : Type 1} → statement M
 reset-spec =

@@ -2,7 +2,7 @@
 use mathlib.Core.Path.{ap, ◌∙◌}
 use borrow.Author.Rules.{rules}
 use Rattle.units.specs.Units.{picometres}
-use Rattle.arithmetic.proofs.LittleEndian.{of-pairs}
+use Rattle.arithmetic.proofs.LittleEndian.{of_pairs}
 use Rattle.records.proofs.pixel_size.Statement.{statement}
 use Rattle.records.proofs.pixel_size.Tie as tie
 
@@ -14,7 +14,7 @@ returns c =
     let first_byte = low_read.before.before.before in
     let given = first_byte.before.args in
     c.of.ensures
-    ∙ ap picometres (of-pairs given.input.now given.start low_read.pair.result high_read.pair2.result
+    ∙ ap picometres (of_pairs given.input.now given.start low_read.pair.result high_read.pair2.result
     four.result low_read.pair.ensures high_read.pair2.ensures four.ensures)
 
 pub pixel-size-spec : {M : Type 1} → statement M

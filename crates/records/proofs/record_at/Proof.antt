@@ -8,7 +8,7 @@ use lib.ListN.{length}
 use Rattle.answers.specs.Refusals.{Unless}
 use Rattle.answers.proofs.Refusals.{stops, goes_on}
 use Rattle.arithmetic.specs.Bytes.{byte}
-use Rattle.records.specs.Records.{Known, bodyLength, byKind}
+use Rattle.records.specs.Records.{Known, body_length, by_kind}
 use Rattle.records.proofs.Bodies.{told-unknown, told-known}
 use Rattle.records.proofs.record_at.Statement.{statement}
 use Rattle.records.proofs.record_at.Tie as tie
@@ -29,13 +29,13 @@ module _ (past-kind : tie.Else3) where
   abbrev at : ℕ
   at = inside.before.before.before.args.at
 
-  told : Known (byte input at) × (past-kind.before.body-length.result ≡ bodyLength (byte input at))
+  told : Known (byte input at) × (past-kind.before.body-length.result ≡ body_length (byte input at))
   told = told-known past-kind.before.body-length.ensures past-kind.if3.left
 
   known : Known (byte input at)
   known = told.0
 
-  size : past-kind.before.body-length.result ≡ bodyLength (byte input at)
+  size : past-kind.before.body-length.result ≡ body_length (byte input at)
   size = told.1
 
 returns-4 : tie.Need-returns-4
@@ -52,7 +52,7 @@ returns-5 : tie.Need-returns-5
 returns-5 c =
     let past-kind = c.before.before in
     let here = at past-kind in
-    let ends = ap (λ (n : ℕ). byKind (input past-kind) (byte (input past-kind) here) (here + 1) (here + 1 + n)) (size past-kind) in
+    let ends = ap (λ (n : ℕ). by_kind (input past-kind) (byte (input past-kind) here) (here + 1) (here + 1 + n)) (size past-kind) in
     begun (inside past-kind)
     (goes_on (known past-kind) (goes_on (omega (arith, size past-kind)) (c.by_kind.ensures ∙ ends)))
 

@@ -19,9 +19,9 @@ pub record Located (x : Sixteenths) (c : Coordinate) : Type 0 where
 -- the 4×4 levels around a column and a row are in the picture, whose rows have w levels, and there are weights for both remainders
 pub record Around (levels : List ℕ) (w : ℕ) (column row : Coordinate) : Type 0 where
   pub rows : ℕ
-  pub in-columns : Surrounded w column.pixel
+  pub in_columns : Surrounded w column.pixel
   pub in_rows : Surrounded rows row.pixel
-  pub all-levels : length levels ≡ w * rows
+  pub all_levels : length levels ≡ w * rows
   pub few : w * rows ≤ 1_048_576
   pub across : column.remainder < 16
   pub down : row.remainder < 16
@@ -38,23 +38,23 @@ pub record Weighed (k t : ℕ) : Type 0 where
 
 -- both numbers are in the lower half of 64 bits, so that a signed number holds their difference
 pub record Halves (added taken : ℕ) : Type 0 where
-  pub added-low : added < 2 ^ 63
-  pub taken-low : taken < 2 ^ 63
+  pub added_low : added < 2 ^ 63
+  pub taken_low : taken < 2 ^ 63
 
 -- number t of four, times its weight
 abbrev pub weighted : ℕ → (ℕ → ℤ) → ℕ → ℤ
 weighted k z t = weight k t *ℤ z t
 
 -- level t of four, from `at` on; and the sum of all four, each times the weight of its column
-abbrev pub levelFrom : List ℕ → ℕ → ℕ → ℤ
-levelFrom levels at t = pos (get_or levels (at + t) 0)
+abbrev pub level_from : List ℕ → ℕ → ℕ → ℤ
+level_from levels at t = pos (get_or levels (at + t) 0)
 
-unfoldable pub rowSum : List ℕ → ℕ → ℕ → ℤ
-rowSum levels at k = sumℤ 4 (weighted k (levelFrom levels at))
+unfoldable pub row_sum : List ℕ → ℕ → ℕ → ℤ
+row_sum levels at k = sumℤ 4 (weighted k (level_from levels at))
 
 -- row r of the four around column i and row j: where its four levels begin; and its sum
-abbrev pub rowStart : ℕ → ℕ → ℕ → ℕ → ℕ
-rowStart w i j r = (j - 1 + r) * w + (i - 1)
+abbrev pub row_start : ℕ → ℕ → ℕ → ℕ → ℕ
+row_start w i j r = (j - 1 + r) * w + (i - 1)
 
-abbrev pub rowFrom : List ℕ → ℕ → ℕ → ℕ → ℕ → ℕ → ℤ
-rowFrom levels w i j across r = rowSum levels (rowStart w i j r) across
+abbrev pub row_from : List ℕ → ℕ → ℕ → ℕ → ℕ → ℕ → ℤ
+row_from levels w i j across r = row_sum levels (row_start w i j r) across

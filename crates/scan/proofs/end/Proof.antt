@@ -8,12 +8,12 @@ use native.Mathlib.Omega.{arith}
 use borrow.Author.Rules.{rules}
 use borrow.Rule.Slice.PartMut.{same_len_mid}
 use lib.ListN.{length, take, drop, set, length-set}
-use Rattle.answers.proofs.Refusals.{stops, goes_on, told-no, told-yes}
-use Rattle.memory.specs.Memory.{width_of, heightOf, cameOf, memory, zeros, Begun}
-use Rattle.memory.proofs.Memories.{length-rows}
-use Rattle.memory.proofs.Outcomes.{when-starts}
-use Rattle.scan.proofs.SixRows.{count-again}
-use Rattle.scan.proofs.Calls.{refused-is, end-ready, end-coming, end-done}
+use Rattle.answers.proofs.Refusals.{stops, goes_on, told_no, told_yes}
+use Rattle.memory.specs.Memory.{width_of, height_of, came_of, memory, zeros, Begun}
+use Rattle.memory.proofs.Memories.{length_rows}
+use Rattle.memory.proofs.Outcomes.{when_starts}
+use Rattle.scan.proofs.SixRows.{count_again}
+use Rattle.scan.proofs.Calls.{refused_is, end-ready, end-coming, end-done}
 use Rattle.scan.proofs.end.Statement.{statement}
 use Rattle.scan.proofs.end.Tie as tie
 
@@ -29,14 +29,14 @@ module _ (begun : tie.Else1) where
   output = start.args.output.now
 
   is-begun : Begun held
-  is-begun = told-yes begun.before.begun.ensures begun.if1.left
+  is-begun = told_yes begun.before.begun.ensures begun.if1.left
 
 -- ---- past the second
 module _ (last : tie.Else2) where
   abbrev begun₂ : tie.Else1
   begun₂ = let came-read = last.before in came-read.before.before.before
 
-  is_last : cameOf (held begun₂) ≡ heightOf (held begun₂)
+  is_last : came_of (held begun₂) ≡ height_of (held begun₂)
   is_last = omega (arith, last.if2.left)
 
 -- ---- where the rows due are known
@@ -44,12 +44,12 @@ module _ (known : tie.After-less) where
   abbrev begun₃ : tie.Else1
   begun₃ = begun₂ known.before
 
-  due-is : heightOf (held begun₃) - known.less.result ≡ min 3 (heightOf (held begun₃))
+  due-is : height_of (held begun₃) - known.less.result ≡ min 3 (height_of (held begun₃))
   due-is = omega (arith, known.less.ensures)
 
-  due-few : (heightOf (held begun₃) - known.less.result) * width_of (held begun₃) ≤ 1048576
+  due-few : (height_of (held begun₃) - known.less.result) * width_of (held begun₃) ≤ 1048576
   due-few =
-      let few : heightOf (held begun₃) - known.less.result ≤ 1024 = omega (arith, (is-begun begun₃).height.1) in
+      let few : height_of (held begun₃) - known.less.result ≤ 1024 = omega (arith, (is-begun begun₃).height.1) in
       mul-le-mul few (is-begun begun₃).width.1
 
 -- ---- past the last
@@ -60,7 +60,7 @@ module _ (passed : tie.Else3) where
   abbrev last₀ : tie.Else2
   last₀ = passed.before.before
 
-  room : min 3 (heightOf (held begun₀)) * width_of (held begun₀) ≤ length (output begun₀)
+  room : min 3 (height_of (held begun₀)) * width_of (held begun₀) ≤ length (output begun₀)
   room = rw (← due-is passed.before) (omega arith)
 
 abbrev passed₄ : tie.After-take-rows → tie.Else3
@@ -69,23 +69,23 @@ passed₄ taken = let lent = taken.before in lent.before.before.before
 returns : tie.Need-returns
 returns c =
     let told = c.before.before in
-    stops (told-no told.begun.ensures c.before.if1.true) (refused-is c.refuse.ensures)
+    stops (told_no told.begun.ensures c.before.if1.true) (refused_is c.refuse.ensures)
 
 returns-2 : tie.Need-returns-2
 returns-2 c =
     let height-read = c.before.before.before in
     let past-begun = height-read.before.before in
     goes_on (is-begun past-begun)
-    (stops (λ ok. omega (arith, ok, c.before.if2.true)) (refused-is c.refuse2.ensures))
+    (stops (λ ok. omega (arith, ok, c.before.if2.true)) (refused_is c.refuse2.ensures))
 
 returns-3 : tie.Need-returns-3
 returns-3 c =
     let due-known = c.before.before in
     let past-last = due-known.before in
     let begun = begun₃ due-known in
-    let out : ¬ (min 3 (heightOf (held begun)) * width_of (held begun) ≤ length (output begun)) =
+    let out : ¬ (min 3 (height_of (held begun)) * width_of (held begun) ≤ length (output begun)) =
     rw (← due-is due-known) (λ ok. omega (arith, ok, c.before.if3.true)) in
-    goes_on (is-begun begun) (goes_on (is_last past-last) (stops out (refused-is c.refuse3.ensures)))
+    goes_on (is-begun begun) (goes_on (is_last past-last) (stops out (refused_is c.refuse3.ensures)))
 
 take-rows-requires : tie.Need-take-rows-requires
 take-rows-requires c κs =
@@ -115,10 +115,10 @@ module _ (anew : tie.After-start) where
   lent-long : length lent ≡ length (held begun₅)
   lent-long = same_len_mid 3 6144 (held begun₅) taken.take-rows.last.0 taken.take-rows.kept.0
 
-  anew_is : anew.start.last.0 ≡ memory (width_of (held begun₅)) (heightOf (held begun₅)) 0 (zeros 6144) (drop 6147 lent)
+  anew_is : anew.start.last.0 ≡ memory (width_of (held begun₅)) (height_of (held begun₅)) 0 (zeros 6144) (drop 6147 lent)
   anew_is =
       let is = is-begun begun₅ in
-      when-starts lent (width_of (held begun₅)) (heightOf (held begun₅)) _ _ (omega (arith, lent-long, is.long)) is.width is.height
+      when_starts lent (width_of (held begun₅)) (height_of (held begun₅)) _ _ (omega (arith, lent-long, is.long)) is.width is.height
       anew.start.ensures
 
   anew-long : length anew.start.last.0 ≡ length (held begun₅)
@@ -130,15 +130,15 @@ returns-4 c =
     let passed = passed₅ anew in
     let begun = begun₅ anew in
     let w = width_of (held begun) in
-    let h = heightOf (held begun) in
-    let rows_long = (taken anew).take-rows.auto.0 ∙ length-rows (held begun) (is-begun begun).long in
+    let h = height_of (held begun) in
+    let rows_long = (taken anew).take-rows.auto.0 ∙ length_rows (held begun) (is-begun begun).long in
     let left =
     ap (λ (m : List ℕ). set m 2 (h + 3)) (anew_is anew)
-    ∙ count-again w h 0 (h + 3) (zeros 6144) (drop 6147 (lent anew)) in
+    ∙ count_again w h 0 (h + 3) (zeros 6144) (drop 6147 (lent anew)) in
     end-done (held begun) (is-begun begun) (is_last (last₀ passed)) (output begun) (room passed)
     (taken anew).take-rows.new.0 _ _ _
     rows_long
-    (due-is passed.before) left (taken anew).take-rows.ensures.output-is
+    (due-is passed.before) left (taken anew).take-rows.ensures.output_is
 
 slice-write-held : tie.Need-slice-write-held
 slice-write-held c =

@@ -9,10 +9,10 @@ use borrow.Author.Rules.{rules}
 use borrow.Rule.Slice.PartMut.{same_len_mid}
 use lib.ListN.{length, length-set}
 use Rattle.arithmetic.specs.Lists.{AtMost}
-use Rattle.answers.proofs.Refusals.{stops, goes_on, told-no, told-yes}
-use Rattle.memory.specs.Memory.{width_of, heightOf, cameOf, Begun}
+use Rattle.answers.proofs.Refusals.{stops, goes_on, told_no, told_yes}
+use Rattle.memory.specs.Memory.{width_of, height_of, came_of, Begun}
 use Rattle.scan.specs.Scan.{due}
-use Rattle.scan.proofs.Calls.{refused-is, less-of, is-ready, is-coming, rows-done}
+use Rattle.scan.proofs.Calls.{refused_is, less_of, is-ready, is-coming, rows-done}
 use Rattle.scan.proofs.rows.Statement.{statement}
 use Rattle.scan.proofs.rows.Tie as tie
 
@@ -34,7 +34,7 @@ module _ (begun : tie.Else1) where
   output = start.args.output.now
 
   is-begun : Begun held
-  is-begun = told-yes begun.before.begun.ensures begun.if1.left
+  is-begun = told_yes begun.before.begun.ensures begun.if1.left
 
   bytes : AtMost 255 levels
   bytes i = omega (arith, levels-known.shared-slice-known.given i)
@@ -48,7 +48,7 @@ module _ (read : tie.After-slice-known5) where
   abbrev begun₅ : tie.Else1
   begun₅ = read.before.before.before
 
-  few : cameOf (held begun₅) ≤ 65535
+  few : came_of (held begun₅) ≤ 65535
   few = omega (arith, read.slice-known5.given 2)
 
 -- ---- past the second and the third
@@ -59,10 +59,10 @@ module _ (within : tie.Else3) where
   abbrev begun₃ : tie.Else1
   begun₃ = begun₅ whole.before
 
-  is_within : n begun₃ ≤ heightOf (held begun₃) - cameOf (held begun₃)
+  is_within : n begun₃ ≤ height_of (held begun₃) - came_of (held begun₃)
   is_within = omega (arith, within.before.less.ensures, within.if3.left)
 
-  few-rows : (cameOf (held begun₃) + n begun₃ ≤ 65535) × (n begun₃ ≤ 1024)
+  few-rows : (came_of (held begun₃) + n begun₃ ≤ 65535) × (n begun₃ ≤ 1024)
   few-rows =
       let height = (is-begun begun₃).height.1 in
       let came = few whole.before in
@@ -77,8 +77,8 @@ module _ (known : tie.After-less3) where
   abbrev begun₄ : tie.Else1
   begun₄ = begun₃ within₄
 
-  due-is : known.before.less2.result - known.less3.result ≡ due (cameOf (held begun₄)) (n begun₄)
-  due-is = less-of known.before.less2.ensures known.less3.ensures
+  due-is : known.before.less2.result - known.less3.result ≡ due (came_of (held begun₄)) (n begun₄)
+  due-is = less_of known.before.less2.ensures known.less3.ensures
 
   due-few : (known.before.less2.result - known.less3.result) * width_of (held begun₄) ≤ 1048576
   due-few =
@@ -93,19 +93,19 @@ module _ (passed : tie.Else4) where
   abbrev within₀ : tie.Else3
   within₀ = within₄ passed.before
 
-  room : due (cameOf (held begun₀)) (n begun₀) * width_of (held begun₀) ≤ length (output begun₀)
+  room : due (came_of (held begun₀)) (n begun₀) * width_of (held begun₀) ≤ length (output begun₀)
   room = rw (← due-is passed.before) (omega arith)
 
 returns : tie.Need-returns
 returns c =
     let told = c.before.before in
-    stops (told-no told.begun.ensures c.before.if1.true) (refused-is c.refuse.ensures)
+    stops (told_no told.begun.ensures c.before.if1.true) (refused_is c.refuse.ensures)
 
 returns-2 : tie.Need-returns-2
 returns-2 c =
     let numbers-read = c.before.before in
     let begun = begun₅ numbers-read in
-    goes_on (is-begun begun) (stops c.before.if2.true (refused-is c.refuse2.ensures))
+    goes_on (is-begun begun) (stops c.before.if2.true (refused_is c.refuse2.ensures))
 
 returns-3 : tie.Need-returns-3
 returns-3 c =
@@ -113,16 +113,16 @@ returns-3 c =
     let past-parts = room-known.before in
     let numbers-read = past-parts.before in
     goes_on (is-begun (begun₅ numbers-read)) (goes_on past-parts.if2.false
-    (stops (λ ok. omega (arith, ok, room-known.less.ensures, c.before.if3.true)) (refused-is c.refuse3.ensures)))
+    (stops (λ ok. omega (arith, ok, room-known.less.ensures, c.before.if3.true)) (refused_is c.refuse3.ensures)))
 
 returns-4 : tie.Need-returns-4
 returns-4 c =
     let due-known = c.before.before in
     let within = within₄ due-known in
     let begun = begun₄ due-known in
-    let out : ¬ (due (cameOf (held begun)) (n begun) * width_of (held begun) ≤ length (output begun)) =
+    let out : ¬ (due (came_of (held begun)) (n begun) * width_of (held begun) ≤ length (output begun)) =
     rw (← due-is due-known) (λ ok. omega (arith, ok, c.before.if4.true)) in
-    goes_on (is-begun begun) (goes_on (whole within).if2.left (goes_on (is_within within) (stops out (refused-is c.refuse4.ensures))))
+    goes_on (is-begun begun) (goes_on (whole within).if2.left (goes_on (is_within within) (stops out (refused_is c.refuse4.ensures))))
 
 take-rows-requires : tie.Need-take-rows-requires
 take-rows-requires c κs =
@@ -150,7 +150,7 @@ returns-5 c =
     rows-done (held begun) (is-begun begun) (levels begun) (output begun) (bytes begun) (few (whole within).before)
     (whole within).if2.left (is_within within)
     taken-all.take-rows.new.0 _ _ (room passed) (due-is passed.before) taken-all.take-rows.ensures.rows_are
-    taken-all.take-rows.ensures.output-is
+    taken-all.take-rows.ensures.output_is
 
 slice-read-came : tie.Need-slice-read-came
 slice-read-came c =

@@ -5,7 +5,7 @@ use Rattle.filter.specs.Row.{Beside}
 use Rattle.picture.specs.Picture.{Side}
 use Rattle.memory.specs.Memory.{row_at, Ranges}
 use Rattle.scan.specs.Held.{given}
-use Rattle.scan.specs.Ring.{heldIn}
+use Rattle.scan.specs.Ring.{held_in}
 
 -- how long row k − late is: w where it is one of the picture's h
 unfoldable pub long : ℕ → ℕ → ℕ → ℕ → ℕ
@@ -33,5 +33,5 @@ pub record Ready (w h k : ℕ) (rows : List ℕ) : Type 0 where
 pub record Coming (w h k each n : ℕ) (rows levels output : List ℕ) : Type 0 where
   pub few : k + n ≤ 70_000
   pub rows_are : (i : ℕ) → i < n → long w h (k + i) 0 ≡ each
-  pub levels-are : length levels ≡ n * each
-  pub room : length (given (heldIn w h k rows) (row_at each levels) n) ≤ length output
+  pub levels_are : length levels ≡ n * each
+  pub room : length (given (held_in w h k rows) (row_at each levels) n) ≤ length output

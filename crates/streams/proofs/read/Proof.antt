@@ -4,7 +4,7 @@ use Prim.Native.Nat.{◌-◌, ◌≤◌}
 use native.Mathlib.Omega.{arith}
 use borrow.Author.Rules.{rules}
 use lib.ListN.{length}
-use Rattle.streams.proofs.Receiving.{came, nothing-came}
+use Rattle.streams.proofs.Receiving.{came, nothing_came}
 use Rattle.streams.proofs.read.Statement.{statement}
 use Rattle.streams.proofs.read.Tie as tie
 
@@ -17,7 +17,7 @@ decreases-loop space₀ done₀ space done = length space - done
 returns : tie.Need-returns invariant-loop decreases-loop
 returns c =
     let some = c.before.before.before.some in
-    nothing-came _ _ some.result some.ensures c.if1.true
+    nothing_came _ _ some.result some.ensures c.if1.true
 
 pub read_spec : {M : Type 1} → statement M
 read_spec =

@@ -8,7 +8,7 @@ use mir.Syntax.{w64}
 use mir.Val.{to_z, of_z}
 use mir.ValLaws.{to_z-of_z}
 use Rattle.io.specs.Counts.{clamp_len}
-use Rattle.streams.proofs.Receiving.{told-failed, told-count}
+use Rattle.streams.proofs.Receiving.{told_failed, told_count}
 use Rattle.streams.proofs.told.Statement.{statement}
 use Rattle.streams.proofs.told.Tie as tie
 
@@ -19,15 +19,15 @@ back at-start = to_z-of_z w64 at-start.args.answer at-start.ranges.answer
 returns : tie.Need-returns
 returns c =
     let at-start = c.before.before in
-    told-failed at-start.args.answer at-start.args.space.now (rw (back at-start) at c.if1.true)
+    told_failed at-start.args.answer at-start.args.space.now (rw (back at-start) at c.if1.true)
 
 returns-2 : tie.Need-returns-2
 returns-2 c =
     let at-start = c.before.before.before in
     let space = at-start.args.space.now in
-    let count-is = c.count.ensures.1 in
-    told-count at-start.args.answer space c.count.result (rw (back at-start) at c.before.if1.false) (omega arith)
-    (count-is ∙ ap (λ (z : ℤ). clamp_len z (length space)) (back at-start))
+    let count_is = c.count.ensures.1 in
+    told_count at-start.args.answer space c.count.result (rw (back at-start) at c.before.if1.false) (omega arith)
+    (count_is ∙ ap (λ (z : ℤ). clamp_len z (length space)) (back at-start))
 
 pub told-spec : {M : Type 1} → statement M
 told-spec = tie.close (tie.spec returns (λ c κs. search rules) returns-2)

@@ -8,5 +8,5 @@ use Rattle.streams.specs.Streams.{Received}
 -- POSIX: a read answers −1 where it fails, and else how many bytes it put at the start of the space, 0 at the end of the input
 pub record Told (answer : ℤ) (space : List ℕ) (r : Got) : Type 0 where
   pub received : Received space r
-  pub failed-is : r.failed ≡ lt_z answer (pos 0)
-  pub count-is : r.count ≡ clamp_len answer (length space)
+  pub failed_is : r.failed ≡ lt_z answer (pos 0)
+  pub count_is : r.count ≡ clamp_len answer (length space)

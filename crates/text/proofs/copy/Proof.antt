@@ -1,7 +1,7 @@
 -- `text::copy` meets its contract: after i turns the block has the first i bytes of the text. Assumes nothing.
 use Rattle.std.proofs.Common.{◌≡◌, ◌-◌, ◌≤◌, get_or, refl, arith}
-use Rattle.arithmetic.proofs.Turns.{Turn, first-turn, next-turn}
-use Rattle.arithmetic.proofs.Writing.{Overwritten, overwritten-none, overwritten-more}
+use Rattle.arithmetic.proofs.Turns.{Turn, first_turn, next_turn}
+use Rattle.arithmetic.proofs.Writing.{Overwritten, overwritten_none, overwritten_more}
 use Rattle.text.proofs.copy.Statement.{statement}
 use Rattle.text.proofs.copy.Tie as tie
 
@@ -17,8 +17,8 @@ loop-again c =
     let given = at-loop.before.args in
     let turn = at-loop.loop in
     let so_far = turn.invariant.so_far in
-    next-turn turn.invariant (omega arith)
-    (overwritten-more given.block.now given.at _ turn.block turn.i _ (omega arith) refl so_far)
+    next_turn turn.invariant (omega arith)
+    (overwritten_more given.block.now given.at _ turn.block turn.i _ (omega arith) refl so_far)
 
 returns : tie.Need-returns invariant-loop decreases-loop
 returns past-loop =
@@ -31,6 +31,6 @@ pub copy_spec : {M : Type 1} → statement M
 copy_spec =
     tie.close
     (tie.spec invariant-loop decreases-loop
-    (λ c. first-turn (omega arith) (overwritten-none c.args.block.now c.args.at _))
+    (λ c. first_turn (omega arith) (overwritten_none c.args.block.now c.args.at _))
     (λ c. omega arith) (λ c. omega arith) (λ c. omega arith) (λ c. omega arith) (λ c. omega arith) loop-again
     (λ c. omega arith) returns)

@@ -1,7 +1,7 @@
 -- `text::digits` meets its contract: one digit is stored, and more are io's, copied. Assumes nothing.
 use Rattle.std.proofs.Common.{◌≤◌, arith, rules}
-use Rattle.text.proofs.Spelling.{few-digits}
-use Rattle.text.proofs.Putting.{digit-put, digits-put}
+use Rattle.text.proofs.Spelling.{few_digits}
+use Rattle.text.proofs.Putting.{digit_put, digits_put}
 use Rattle.text.proofs.digits.Statement.{statement}
 use Rattle.text.proofs.digits.Tie as tie
 
@@ -15,7 +15,7 @@ at-start spelled =
 few : (spelled : tie.After-decimal) → spelled.decimal.result ≤ 20
 few spelled =
     let least-digits = spelled.decimal.ensures.1.0 in
-    few-digits (at-start spelled).args.n spelled.decimal.result (omega arith) least-digits
+    few_digits (at-start spelled).args.n spelled.decimal.result (omega arith) least-digits
 
 copy-requires : tie.Need-copy-requires
 copy-requires c κs = record { few = few c.before.before; room = omega (arith, few c.before.before) }
@@ -24,7 +24,7 @@ copy-requires c κs = record { few = few c.before.before; room = omega (arith, f
 returns : tie.Need-returns
 returns c =
     let given = c.before.before.args in
-    digit-put given.block.now given.at given.n c.if1.true (omega arith)
+    digit_put given.block.now given.at given.n c.if1.true (omega arith)
 
 -- more of them
 returns-2 : tie.Need-returns-2
@@ -33,7 +33,7 @@ returns-2 c =
     let spelled = copied.before.before.before in
     let given = (at-start spelled).args in
     let spelling = spelled.decimal.ensures in
-    digits-put given.block.now _ _ given.at given.n spelled.decimal.result (omega arith)
+    digits_put given.block.now _ _ given.at given.n spelled.decimal.result (omega arith)
     spelling.0
     spelling.1.0
     spelling.1.1

@@ -2,7 +2,7 @@
 use Rattle.std.proofs.Common.{◌≡◌, nat_abs, ap, ◌∙◌, arith, length-set, w64, to_z, of_z, rules}
 use mir.ValLaws.{to_z-of_z}
 use Rattle.arithmetic.specs.Signed.{nat_of}
-use Rattle.text.proofs.Putting.{sign-put, no-sign-put}
+use Rattle.text.proofs.Putting.{sign_put, no_sign_put}
 use Rattle.text.proofs.signed_digits.Statement.{statement}
 use Rattle.text.proofs.signed_digits.Tie as tie
 
@@ -19,7 +19,7 @@ returns c =
     let given = at-start.args in
     let below = magnitude-known.magnitude.ensures in-negative.if1.true ∙ ap nat_abs (back at-start) in
     let negative = rw (back at-start) at in-negative.if1.true in
-    sign-put given.block.now given.at _ given.v _ (omega arith) negative below put.digits.ensures
+    sign_put given.block.now given.at _ given.v _ (omega arith) negative below put.digits.ensures
 
 returns-2 : tie.Need-returns-2
 returns-2 c =
@@ -30,7 +30,7 @@ returns-2 c =
     let given = at-start.args in
     let is = natural-known.natural.ensures ∙ ap nat_of (back at-start) in
     let not_negative = rw (back at-start) at past-negative.if1.false in
-    no-sign-put given.block.now given.at _ given.v _ not_negative is put.digits2.ensures
+    no_sign_put given.block.now given.at _ given.v _ not_negative is put.digits2.ensures
 
 digits-requires : tie.Need-digits-requires
 digits-requires c κs =

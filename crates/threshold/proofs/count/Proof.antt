@@ -1,21 +1,21 @@
 -- `threshold::count` meets its contract: each test in its turn, and then the counts are put into the histogram. Assumes nothing.
 use mathlib.Core.Path.{refl}
 use borrow.Author.Rules.{rules}
-use Rattle.answers.proofs.Refusals.{stops, goes_on, told-no, told-yes}
+use Rattle.answers.proofs.Refusals.{stops, goes_on, told_no, told_yes}
 use Rattle.threshold.specs.Histogram.{Countable}
-use Rattle.threshold.proofs.Histograms.{count-done}
+use Rattle.threshold.proofs.Histograms.{count_done}
 use Rattle.threshold.proofs.count.Statement.{statement}
 use Rattle.threshold.proofs.count.Tie as tie
 
 -- past the second test the values can be counted
 countable : (past-values : tie.Else2) → let past-length = past-values.before.before in
     Countable past-length.before.before.before.args.values.now
-countable past-values = told-yes past-values.before.countable.ensures past-values.if2.false
+countable past-values = told_yes past-values.before.countable.ensures past-values.if2.false
 
 returns-2 : tie.Need-returns-2
 returns-2 c =
     let past-length = c.before.before in
-    goes_on past-length.if1.false (stops (told-no c.before.countable.ensures c.if2.true) refl)
+    goes_on past-length.if1.false (stops (told_no c.before.countable.ensures c.if2.true) refl)
 
 returns-3 : tie.Need-returns-3
 returns-3 c =
@@ -26,7 +26,7 @@ returns-3 c =
     let values = past-length.before.before.before.args.values.now in
     let ok = countable past-values in
     goes_on past-length.if1.false
-    (goes_on ok (count-done values counted.Counts-of.result put_in.put.new.1.0 ok
+    (goes_on ok (count_done values counted.Counts-of.result put_in.put.new.1.0 ok
     counted.Counts-of.ensures put_in.put.ensures))
 
 pub count_spec : {M : Type 1} → statement M

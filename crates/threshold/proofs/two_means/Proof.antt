@@ -8,7 +8,7 @@ use lib.ListN.{length, get_or}
 use borrow.Author.Rules.{rules}
 use Rattle.answers.proofs.Refusals.{stops, goes_on}
 use Rattle.threshold.specs.Histogram.{total}
-use Rattle.threshold.proofs.Tables.{total-read}
+use Rattle.threshold.proofs.Tables.{total_read}
 use Rattle.threshold.proofs.two_means.Statement.{statement}
 use Rattle.threshold.proofs.two_means.Tie as tie
 
@@ -27,7 +27,7 @@ module _ (filled : tie.After-sums2) where
   levels = past-levels.if1.left
 
   is-total : get_or tables.fill.last.1.0 256 0 ≡ total histogram
-  is-total = total-read levels tables.fill.ensures
+  is-total = total_read levels tables.fill.ensures
 
 -- past the second test it is not 0, and past the third at most 1,048,576
 some-values : (past-none : tie.Else2) → ¬ (total (histogram past-none.before) ≡ 0)

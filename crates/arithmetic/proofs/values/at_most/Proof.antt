@@ -1,13 +1,13 @@
 -- `arithmetic::values::at_most` meets its contract: each is at most `most` where the greatest is. Assumes nothing.
 use borrow.Author.Rules.{rules}
-use Rattle.arithmetic.proofs.Most.{most-tells}
+use Rattle.arithmetic.proofs.Most.{most_tells}
 use Rattle.arithmetic.proofs.values.at_most.Statement.{statement}
 use Rattle.arithmetic.proofs.values.at_most.Tie as tie
 
 returns : tie.Need-returns
 returns c =
     let given = c.before.before.args in
-    most-tells given.values.now c.greatest.result given.most c.greatest.ensures
+    most_tells given.values.now c.greatest.result given.most c.greatest.ensures
 
 pub at-most-spec : {M : Type 1} → statement M
 at-most-spec = tie.close (tie.spec (λ c κs. search rules) returns)

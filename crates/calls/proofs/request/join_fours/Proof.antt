@@ -2,12 +2,12 @@
 use Prim.Native.Nat.{◌-◌}
 use native.Mathlib.Omega.{arith}
 use Rattle.calls.proofs.Laws.{Joining, none-joined, bytes-there, one-more-joined, all-joined}
-use Rattle.arithmetic.specs.Bytes.{fourBytes}
+use Rattle.arithmetic.specs.Bytes.{four_bytes}
 use Rattle.calls.proofs.request.join_fours.Statement.{statement}
 use Rattle.calls.proofs.request.join_fours.Tie as tie
 
 abbrev invariant-loop : tie.invariant-loop
-invariant-loop b at step space₀ n i₀ space i = Joining 4 fourBytes b at step space₀ n space i
+invariant-loop b at step space₀ n i₀ space i = Joining 4 four_bytes b at step space₀ n space i
 
 abbrev decreases-loop : tie.decreases-loop
 decreases-loop b at step space₀ n i₀ space i = n - i

@@ -1,13 +1,13 @@
 -- `calls::request::join_pairs` meets its contract: after i turns the first i elements are joined. Assumes nothing.
 use Prim.Native.Nat.{◌-◌}
 use native.Mathlib.Omega.{arith}
-use Rattle.arithmetic.specs.Bytes.{twoBytes}
+use Rattle.arithmetic.specs.Bytes.{two_bytes}
 use Rattle.calls.proofs.Laws.{Joining, none-joined, bytes-there, one-more-joined, all-joined}
 use Rattle.calls.proofs.request.join_pairs.Statement.{statement}
 use Rattle.calls.proofs.request.join_pairs.Tie as tie
 
 abbrev invariant-loop : tie.invariant-loop
-invariant-loop b at step space₀ n i₀ space i = Joining 2 twoBytes b at step space₀ n space i
+invariant-loop b at step space₀ n i₀ space i = Joining 2 two_bytes b at step space₀ n space i
 
 abbrev decreases-loop : tie.decreases-loop
 decreases-loop b at step space₀ n i₀ space i = n - i

@@ -1,7 +1,7 @@
 -- `calls::request::lent_values` meets its contract: the length is taken or not, and as many places are set. Assumes nothing.
 use native.Mathlib.Omega.{arith}
 use borrow.Author.Rules.{rules}
-use Rattle.calls.proofs.Laws.{taken-room, low-two, lent}
+use Rattle.calls.proofs.Laws.{taken_room, low-two, lent}
 use Rattle.calls.proofs.request.lent_values.Statement.{statement}
 use Rattle.calls.proofs.request.lent_values.Tie as tie
 
@@ -21,5 +21,5 @@ lent-values-spec =
     tie.close
     (tie.spec
     (λ c κs. search rules) (λ c κs. search rules)
-    (λ c κs. record { each = λ i h. omega arith; room = taken-room _ _ _ c.before.up_to.ensures })
+    (λ c κs. record { each = λ i h. omega arith; room = taken_room _ _ _ c.before.up_to.ensures })
     (λ c. search rules) returns)

@@ -3,8 +3,8 @@ use mathlib.Core.Path.{refl}
 use Prim.Native.Nat.{◌+◌, ◌-◌}
 use native.Mathlib.Omega.{arith}
 use lib.ListN.{get_or}
-use Rattle.arithmetic.proofs.Writing.{Overwritten, overwritten-none, overwritten-more}
-use Rattle.arithmetic.proofs.Turns.{Turn, first-turn, next-turn, last_turn}
+use Rattle.arithmetic.proofs.Writing.{Overwritten, overwritten_none, overwritten_more}
+use Rattle.arithmetic.proofs.Turns.{Turn, first_turn, next_turn, last_turn}
 use Rattle.filter.proofs.Blocks.{gathered}
 use Rattle.filter.proofs.block.gather.Statement.{statement}
 use Rattle.filter.proofs.block.gather.Tie as tie
@@ -20,8 +20,8 @@ loop-again c =
     let at-loop = c.before.before in
     let turn = at-loop.loop in
     let given = at-loop.before.args in
-    next-turn turn.invariant (omega arith)
-    (overwritten-more given.t.now given.n _ turn.t turn.k _ (omega arith) refl turn.invariant.so_far)
+    next_turn turn.invariant (omega arith)
+    (overwritten_more given.t.now given.n _ turn.t turn.k _ (omega arith) refl turn.invariant.so_far)
 
 returns : tie.Need-returns invariant-loop decreases-loop
 returns c =
@@ -35,6 +35,6 @@ pub gather-spec : {M : Type 1} → statement M
 gather-spec =
     tie.close
     (tie.spec invariant-loop decreases-loop
-    (λ c. first-turn (omega arith) (overwritten-none c.args.t.now c.args.n _)) (λ c. omega arith) (λ c. omega arith)
+    (λ c. first_turn (omega arith) (overwritten_none c.args.t.now c.args.n _)) (λ c. omega arith) (λ c. omega arith)
     (λ c. omega arith) (λ c. omega arith) (λ c. omega arith) (λ c. omega arith) (λ c. omega arith) (λ c. omega arith) loop-again
     (λ c. omega arith) returns)

@@ -5,8 +5,8 @@ use mathlib.Core.List.{List, ◌++◌}
 use native.Mathlib.Omega.{arith}
 use borrow.Author.Rules.{rules}
 use Rattle.filter.specs.inside.Asked.{cut}
-use Rattle.filter.proofs.Counts.{columns-times-rows}
-use Rattle.filter.proofs.Blocks.{Holds, holds-first, holds_more, held_small, held-median}
+use Rattle.filter.proofs.Counts.{columns_times_rows}
+use Rattle.filter.proofs.Blocks.{Holds, holds_first, holds_more, held_small, held_median}
 use Rattle.filter.proofs.block.of_three.Statement.{statement}
 use Rattle.filter.proofs.block.of_three.Tie as tie
 
@@ -25,7 +25,7 @@ module _ (one_in : tie.After-gather) where
   columns row = cut at-start.args.first count row
 
   held_one : Holds count one_in.gather.last.0 (columns at-start.args.above.now)
-  held_one = holds-first _ _ at-start.pre.rows.above-row at-start.pre.inside one_in.gather.ensures
+  held_one = holds_first _ _ at-start.pre.rows.above_row at-start.pre.inside one_in.gather.ensures
 
 -- and the row itself
 module _ (two_in : tie.After-gather2) where
@@ -37,7 +37,7 @@ module _ (two_in : tie.After-gather2) where
 
   held_two : Holds (count one_in + count one_in) two_in.gather2.last.0
       (columns one_in begun.args.above.now ++ columns one_in begun.args.here.now)
-  held_two = holds_more _ _ (held_one one_in) begun.pre.rows.here-row begun.pre.inside two_in.gather2.ensures
+  held_two = holds_more _ _ (held_one one_in) begun.pre.rows.here_row begun.pre.inside two_in.gather2.ensures
 
 -- and the row below
 module _ (three-in : tie.After-gather3) where
@@ -59,7 +59,7 @@ twice-requires c κs =
     let three-in = c.before.before in
     let asked = (asked_of three-in).requires in
     record {
-      count = (columns-times-rows (count (one_in (two_in three-in))) asked.some asked.few).2;
+      count = (columns_times_rows (count (one_in (two_in three-in))) asked.some asked.few).2;
       inside = omega arith;
       small = held_small (held three-in);
     }
@@ -70,4 +70,4 @@ of-three-spec =
     (tie.spec
     (λ c. search rules) (λ c κs. search rules) (λ c. search rules) (λ c κs. search rules) (λ c. search rules) (λ c. search rules)
     (λ c κs. search rules) (λ c. search rules) (λ c. search rules) (λ c. search rules) twice-requires
-    (λ c. held-median _ (held c.before.before.before) c.twice.ensures))
+    (λ c. held_median _ (held c.before.before.before) c.twice.ensures))

@@ -4,8 +4,8 @@ use mathlib.Core.List.{List, ◌++◌}
 use native.Mathlib.Omega.{arith}
 use borrow.Author.Rules.{rules}
 use Rattle.filter.specs.inside.Asked.{cut}
-use Rattle.filter.proofs.Counts.{columns-times-rows}
-use Rattle.filter.proofs.Blocks.{Holds, holds-first, holds_more, held_small, held-median}
+use Rattle.filter.proofs.Counts.{columns_times_rows}
+use Rattle.filter.proofs.Blocks.{Holds, holds_first, holds_more, held_small, held_median}
 use Rattle.filter.proofs.block.of_two.Statement.{statement}
 use Rattle.filter.proofs.block.of_two.Tie as tie
 
@@ -27,7 +27,7 @@ module _ (one_in : tie.After-gather) where
   lower = at-start.args.lower.now
 
   held_one : Holds count one_in.gather.last.0 (cut first count upper)
-  held_one = holds-first first count at-start.pre.rows.upper-row at-start.pre.inside one_in.gather.ensures
+  held_one = holds_first first count at-start.pre.rows.upper_row at-start.pre.inside one_in.gather.ensures
 
 -- and the lower one too
 module _ (two_in : tie.After-gather2) where
@@ -38,14 +38,14 @@ module _ (two_in : tie.After-gather2) where
       (cut (first one_in) (count one_in) (upper one_in) ++ cut (first one_in) (count one_in) (lower one_in))
   held =
       let asked = (at-start one_in).pre in
-      holds_more (first one_in) (count one_in) (held_one one_in) asked.rows.lower-row asked.inside two_in.gather2.ensures
+      holds_more (first one_in) (count one_in) (held_one one_in) asked.rows.lower_row asked.inside two_in.gather2.ensures
 
 twice-requires : tie.Need-twice-requires
 twice-requires c κs =
     let two_in = c.before.before in
     let asked = (at-start (one_in two_in)).pre in
     record {
-      count = (columns-times-rows (count (one_in two_in)) asked.some asked.few).1;
+      count = (columns_times_rows (count (one_in two_in)) asked.some asked.few).1;
       inside = omega arith;
       small = held_small (held two_in);
     }
@@ -55,4 +55,4 @@ of-two-spec =
     tie.close
     (tie.spec
     (λ c. search rules) (λ c κs. search rules) (λ c. search rules) (λ c κs. search rules) (λ c. search rules)
-    (λ c. search rules) twice-requires (λ c. held-median _ (held c.before.before.before) c.twice.ensures))
+    (λ c. search rules) twice-requires (λ c. held_median _ (held c.before.before.before) c.twice.ensures))

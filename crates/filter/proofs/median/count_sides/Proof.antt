@@ -5,8 +5,8 @@ use native.Mathlib.Omega.{arith}
 use lib.ListN.{get_or, take}
 use lib.Seq.{get_or-take}
 use Rattle.filter.specs.inside.Counting.{SidesAre}
-use Rattle.arithmetic.proofs.Turns.{Turn, first-turn, next-turn, last_turn}
-use Rattle.filter.proofs.Ranks.{one-most}
+use Rattle.arithmetic.proofs.Turns.{Turn, first_turn, next_turn, last_turn}
+use Rattle.filter.proofs.Ranks.{one_most}
 use Rattle.filter.proofs.Search.{sides-more, sides-few}
 use Rattle.filter.proofs.median.count_sides.Statement.{statement}
 use Rattle.filter.proofs.median.count_sides.Tie as tie
@@ -58,19 +58,19 @@ one-below-requires-2 c κs =
     record { first = (at-start at-loop-test).pre.level; second = small at-loop-test }
 
 add-below : tie.Need-overflow-add-below invariant-loop decreases-loop
-add-below c = omega (arith, few (turn c), c.one_below.ensures, one-most (get_or (t (turn c)) (k (turn c)) 0) (v (turn c)))
+add-below c = omega (arith, few (turn c), c.one_below.ensures, one_most (get_or (t (turn c)) (k (turn c)) 0) (v (turn c)))
 
 add-above : tie.Need-overflow-add-above invariant-loop decreases-loop
 add-above c =
     let at-loop-test = turn c.before.before in
-    omega (arith, few at-loop-test, c.one-below2.ensures, one-most (v at-loop-test) (get_or (t at-loop-test) (k at-loop-test) 0))
+    omega (arith, few at-loop-test, c.one-below2.ensures, one_most (v at-loop-test) (get_or (t at-loop-test) (k at-loop-test) 0))
 
 loop-again : tie.Need-loop-preserved invariant-loop decreases-loop
 loop-again c =
     let below-counted = c.before.before in
     let at-loop-test = turn below-counted in
     let counts = (at-loop at-loop-test).loop in
-    next-turn counts.inv (omega arith)
+    next_turn counts.inv (omega arith)
     (rw (below-counted.one_below.ensures, c.one-below2.ensures)
     (sides-more (t at-loop-test) (v at-loop-test) counts.k _ _ (omega arith) counts.inv.so_far))
 
@@ -78,6 +78,6 @@ pub count-sides-spec : {M : Type 1} → statement M
 count-sides-spec =
     tie.close
     (tie.spec invariant-loop decreases-loop
-    (λ c. first-turn c.before.requires.order c.before.requires.so_far) (λ c. omega arith) (λ c. omega arith) one-below-requires
+    (λ c. first_turn c.before.requires.order c.before.requires.so_far) (λ c. omega arith) (λ c. omega arith) one-below-requires
     add-below (λ c. omega arith) (λ c. omega arith) one-below-requires-2 add-above (λ c. omega arith) (λ c. omega arith) loop-again
     (λ c. last_turn c.before.loop.invariant (omega arith)))

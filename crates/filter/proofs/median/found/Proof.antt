@@ -18,4 +18,4 @@ returns-2 c =
 pub found-spec : {M : Type 1} → statement M
 found-spec =
     tie.close
-    (tie.spec (λ c. goes_on (record { few-below = omega arith; few-above = leb-true _ _ c.if2.true }) refl) returns-2)
+    (tie.spec (λ c. goes_on (record { few_below = omega arith; few_above = leb-true _ _ c.if2.true }) refl) returns-2)

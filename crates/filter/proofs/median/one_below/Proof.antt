@@ -1,22 +1,22 @@
--- `filter::median::one_below` meets its contract: below 32,768 the signed order is the order of natural numbers. Assumes nothing.
+-- `filter::median::one_where_below` meets its contract: below 32,768 the signed order is the order of natural numbers. Assumes nothing.
 use native.Mathlib.Omega.{arith}
 use mathlib.Core.Path.{sym}
 use mir.Syntax.{w16}
 use borrow.Author.Rules.{rules}
 use Rattle.arithmetic.proofs.Casts.{signed-less, signed-not-less}
-use Rattle.filter.proofs.Ranks.{one_below, none_below}
+use Rattle.filter.proofs.Ranks.{one_where_below, none_where_below}
 use Rattle.filter.proofs.median.one_below.Statement.{statement}
 use Rattle.filter.proofs.median.one_below.Tie as tie
 
 returns : tie.Need-returns
 returns c =
     let given = c.before.args in
-    sym (one_below given.a given.b (signed-less w16 given.a given.b (omega arith) (omega arith) c.if1.true))
+    sym (one_where_below given.a given.b (signed-less w16 given.a given.b (omega arith) (omega arith) c.if1.true))
 
 returns-2 : tie.Need-returns-2
 returns-2 c =
     let given = c.before.args in
-    sym (none_below given.a given.b (signed-not-less w16 given.a given.b (omega arith) (omega arith) c.if1.false))
+    sym (none_where_below given.a given.b (signed-not-less w16 given.a given.b (omega arith) (omega arith) c.if1.false))
 
 pub one-below-spec : {M : Type 1} → statement M
 one-below-spec = tie.close (tie.spec (λ c. search rules) (λ c. search rules) returns returns-2)

@@ -4,7 +4,7 @@ use Prim.Native.Nat.{◌≤◌}
 use native.Mathlib.Omega.{arith}
 use borrow.Author.Rules.{rules}
 use lib.Seq.{get_or-take}
-use Rattle.filter.proofs.Ranges.{most-fewer}
+use Rattle.filter.proofs.Ranges.{most_fewer}
 use Rattle.filter.proofs.Search.{sides-none, sides_itself}
 use Rattle.filter.proofs.median.others.Statement.{statement}
 use Rattle.filter.proofs.median.others.Tie as tie
@@ -24,7 +24,7 @@ count-sides-requires c κs =
       order = omega arith;
       inside = omega arith;
       few = omega arith;
-      small = most-fewer 1020 given.k given.n given.t.now (omega arith) at-start.requires.small;
+      small = most_fewer 1020 given.k given.n given.t.now (omega arith) at-start.requires.small;
       level = level at-start;
       so_far = sides-none given.t.now given.v;
     }

@@ -5,10 +5,10 @@ use mathlib.Core.List.{List}
 use Prim.Native.Nat.{ℕ, ◌+◌, ◌-◌, ◌≤◌}
 use native.Mathlib.Omega.{arith}
 use lib.ListN.{take}
-use Rattle.filter.specs.Median.{twiceMedian}
-use Rattle.filter.proofs.Counts.{one-to-nine}
-use Rattle.arithmetic.proofs.Turns.{Turn, first-turn, next-turn}
-use Rattle.filter.proofs.Ranges.{most-median}
+use Rattle.filter.specs.Median.{twice_median}
+use Rattle.filter.proofs.Counts.{one_to_nine}
+use Rattle.arithmetic.proofs.Turns.{Turn, first_turn, next_turn}
+use Rattle.filter.proofs.Ranges.{most_median}
 use Rattle.filter.proofs.Search.{Middles, middles-first, middles-more, middles-last}
 use Rattle.filter.proofs.median.twice.Statement.{statement}
 use Rattle.filter.proofs.median.twice.Tie as tie
@@ -21,7 +21,7 @@ decreases-loop t n ranks lower₀ upper₀ k₀ lower upper k = n - k
 
 -- a block has one to nine levels
 sized : (at-start : tie.Start invariant-loop decreases-loop) → (1 ≤ at-start.args.n) × (at-start.args.n ≤ 9)
-sized at-start = one-to-nine at-start.requires.count
+sized at-start = one_to_nine at-start.requires.count
 
 -- at the loop's test
 module _ (at-loop : tie.At-loop invariant-loop decreases-loop) where
@@ -43,7 +43,7 @@ module _ (at-loop : tie.At-loop invariant-loop decreases-loop) where
 
 -- past the loop all levels are looked at
 median : (past-loop : tie.After-loop invariant-loop decreases-loop) → let at-loop = past-loop.before in
-    at-loop.loop.lower + at-loop.loop.upper ≡ twiceMedian (take (n at-loop) (t at-loop))
+    at-loop.loop.lower + at-loop.loop.upper ≡ twice_median (take (n at-loop) (t at-loop))
 median past-loop =
     let at-loop = past-loop.before in
     let turn = at-loop.loop in
@@ -54,7 +54,7 @@ loop-holds c =
     let after-ranks = c.before.before in
     let at-start = after-ranks.before.before in
     let some = (sized at-start).0 in
-    first-turn some (middles-first at-start.args.t.now at-start.args.n some at-start.requires.inside)
+    first_turn some (middles-first at-start.args.t.now at-start.args.n some at-start.requires.inside)
 
 others-requires : tie.Need-others-requires invariant-loop decreases-loop
 others-requires c κs =
@@ -68,7 +68,7 @@ loop-again c =
     let counted = lower-found.before in
     let at-loop = counted.before.before.before in
     let turn = at-loop.loop in
-    next-turn turn.invariant (omega arith)
+    next_turn turn.invariant (omega arith)
     (middles-more (t at-loop) (n at-loop) (some at-loop) (at-start at-loop).requires.inside turn.k _ _ _ _ _ _ _ _ _ (omega arith) refl
     counted.others.ensures (after-middle-ranks at-loop).middle-ranks.ensures lower-found.found.ensures c.found2.ensures
     turn.invariant.so_far)
@@ -76,7 +76,7 @@ loop-again c =
 add-result : tie.Need-overflow-add-result invariant-loop decreases-loop
 add-result c =
     let at-loop = c.before in
-    omega (arith, median c, most-median 1020 (take (n at-loop) (t at-loop)) (at-start at-loop).requires.small)
+    omega (arith, median c, most_median 1020 (take (n at-loop) (t at-loop)) (at-start at-loop).requires.small)
 
 pub twice_spec : {M : Type 1} → statement M
 twice_spec =

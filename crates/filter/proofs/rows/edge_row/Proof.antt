@@ -7,8 +7,8 @@ use borrow.Author.Rules.{rules}
 use lib.ListN.{length, length-set}
 use Rattle.filter.specs.Median.{row_of}
 use Rattle.filter.specs.inside.Asked.{Made}
-use Rattle.arithmetic.proofs.Turns.{Turn, first-turn, next-turn, last_turn}
-use Rattle.filter.proofs.Blocks.{length-row, row-none, row-all, two-stored}
+use Rattle.arithmetic.proofs.Turns.{Turn, first_turn, next_turn, last_turn}
+use Rattle.filter.proofs.Blocks.{length_row, row_none, row_all, two-stored}
 use Rattle.filter.proofs.rows.edge_row.Statement.{statement}
 use Rattle.filter.proofs.rows.edge_row.Tie as tie
 
@@ -27,28 +27,28 @@ module _ (at-loop : tie.At-loop invariant-loop decreases-loop) where
   begun = let first_made = at-loop.before in at-start first_made.before.before
 
   long : length at-loop.loop.out ≡ length begun.args.upper.now
-  long = at-loop.loop.inv.so_far.long ∙ length-row _ _ _
+  long = at-loop.loop.inv.so_far.long ∙ length_row _ _ _
 
 -- the only column
 returns : tie.Need-returns invariant-loop decreases-loop
 returns c =
     let start = at-start c.before.before in
-    row-all _ _ _ _ 1 (omega arith)
+    row_all _ _ _ _ 1 (omega arith)
     (two-stored start.args.out.now 0 0 1 _ start.pre.rows (omega arith) (omega arith) (omega arith)
-    c.of_two.ensures (row-none _ _ _ _ start.pre.room))
+    c.of_two.ensures (row_none _ _ _ _ start.pre.room))
 
 loop-holds : tie.Need-loop-init invariant-loop decreases-loop
 loop-holds c =
     let start = at-start c.before.before in
-    first-turn (omega arith)
+    first_turn (omega arith)
     (two-stored start.args.out.now 0 0 2 _ start.pre.rows (omega arith) (omega arith) (omega arith)
-    c.of-two2.ensures (row-none _ _ _ _ start.pre.room))
+    c.of-two2.ensures (row_none _ _ _ _ start.pre.room))
 
 loop-again : tie.Need-loop-preserved invariant-loop decreases-loop
 loop-again c =
     let at-loop = c.before.before in
     let turn = at-loop.loop in
-    next-turn turn.invariant (omega arith)
+    next_turn turn.invariant (omega arith)
     (two-stored turn.out turn.i (turn.i - 1) 3 _ (begun at-loop).requires.rows (omega arith) (omega arith) (omega arith)
     c.of-two3.ensures turn.invariant.so_far)
 
@@ -60,7 +60,7 @@ returns-2 c =
     let at-loop = c.before.before in
     let start = begun at-loop in
     let last = length start.args.upper.now - 1 in
-    row-all _ _ _ _ (last + 1) (omega arith)
+    row_all _ _ _ _ (last + 1) (omega arith)
     (two-stored at-loop.loop.out last (last - 1) 2 _ start.pre.rows (omega arith) (omega arith) (omega arith)
     c.of-two4.ensures (last_turn at-loop.loop.invariant (omega arith)))
 

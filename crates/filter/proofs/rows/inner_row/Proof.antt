@@ -5,7 +5,7 @@ use mathlib.Core.List.{List}
 use native.Mathlib.Omega.{arith}
 use borrow.Author.Rules.{rules}
 use lib.ListN.{length, length-set}
-use Rattle.filter.proofs.Blocks.{length-row, row-none, row-all, three-stored}
+use Rattle.filter.proofs.Blocks.{length_row, row_none, row_all, three-stored}
 use Rattle.filter.proofs.rows.inner_row.Statement.{statement}
 use Rattle.filter.proofs.rows.inner_row.Tie as tie
 
@@ -25,15 +25,15 @@ module _ (inner_made : tie.After-inner-columns) where
   out = inner_made.inner-columns.last.1.1.1.1.0
 
   long : length out ≡ length begun.args.here.now
-  long = inner_made.inner-columns.ensures.long ∙ length-row _ _ _
+  long = inner_made.inner-columns.ensures.long ∙ length_row _ _ _
 
 -- the only column
 returns : tie.Need-returns
 returns c =
     let start = at-start c.before.before in
-    row-all _ _ _ _ 1 (omega arith)
+    row_all _ _ _ _ 1 (omega arith)
     (three-stored start.args.out.now 0 0 1 _ start.pre.rows (omega arith) (omega arith) (omega arith)
-    c.of_three.ensures (row-none _ _ _ _ start.pre.room))
+    c.of_three.ensures (row_none _ _ _ _ start.pre.room))
 
 inner-columns-requires : tie.Need-inner-columns-requires
 inner-columns-requires c κs =
@@ -46,7 +46,7 @@ inner-columns-requires c κs =
       inside = omega arith;
       made =
           three-stored start.args.out.now 0 0 2 _ start.pre.rows (omega arith) (omega arith) (omega arith)
-          first_made.of-three2.ensures (row-none _ _ _ _ start.pre.room);
+          first_made.of-three2.ensures (row_none _ _ _ _ start.pre.room);
     }
 
 same-length-2 : tie.Need-same-length-2
@@ -60,7 +60,7 @@ returns-2 c =
     let start = begun inner_made in
     let last = length start.args.here.now - 1 in
     let some = start.pre.rows.some in
-    row-all _ _ _ _ (last + 1) (omega arith)
+    row_all _ _ _ _ (last + 1) (omega arith)
     (three-stored (out inner_made) last (last - 1) 2 _ start.pre.rows (omega arith) (omega arith) (omega arith)
     c.of-three3.ensures inner_made.inner-columns.ensures)
 

@@ -5,7 +5,7 @@ use borrow.Author.Rules.{rules}
 use Prim.Native.Nat.{◌≤◌}
 use lib.ListN.{length}
 use lib.Seq.{length-take-le}
-use Rattle.gongspindle.proofs.Lines.{good-side, line}
+use Rattle.gongspindle.proofs.Lines.{good_side, line}
 use Rattle.gongspindle.proofs.levels.line_of.Statement.{statement}
 use Rattle.gongspindle.proofs.levels.line_of.Tie as tie
 
@@ -21,7 +21,7 @@ module _ (measured : tie.After-measure) where
   room : length at-start.args.levels.now ≤ length measured.measure.last.1.1.1.0
   room =
       let square = at-start.pre in
-      omega (arith, measured.measure.kept, spaces.before.value-space.ensures, square.all-levels, (good-side square.side-is).few)
+      omega (arith, measured.measure.kept, spaces.before.value-space.ensures, square.all_levels, (good_side square.side_is).few)
 
 returns : tie.Need-returns
 returns c =
@@ -35,7 +35,7 @@ returns c =
     refl
     measured.measure.ensures
     counted.count.ensures
-    c.two-means.ensures
+    c.two_means.ensures
 
 pub line-of-spec : {M : Type 1} → statement M
 line-of-spec =

@@ -36,8 +36,8 @@ line-of-requires c κs =
     let end = picture.side.given.0.1.1.0 in
     let lies = levels picture in
     record {
-      side-is = lies.side-is;
-      all-levels = omega (arith, length-take (end - start) (drop start input), length-drop start input);
+      side_is = lies.side_is;
+      all_levels = omega (arith, length-take (end - start) (drop start input), length-drop start input);
     }
 
 returns : tie.Need-returns

@@ -3,7 +3,7 @@ use Prim.Native.Nat.{◌-◌}
 use native.Mathlib.Omega.{arith}
 use borrow.Author.Rules.{rules}
 use lib.ListN.{length}
-use Rattle.judge.proofs.Maxima.{Values, values-none, values-more, values-all}
+use Rattle.judge.proofs.Maxima.{Values, values_none, values_more, values_all}
 use Rattle.judge.proofs.extremes.row_ends.Statement.{statement}
 use Rattle.judge.proofs.extremes.row_ends.Tie as tie
 
@@ -17,13 +17,13 @@ loop-again : tie.Need-loop-preserved invariant-loop decreases-loop
 loop-again c =
     let larger-done = c.before in
     let at-loop-test = larger-done.before.before in
-    values-more at-loop-test.before.loop.invariant at-loop-test.loop-test.true
+    values_more at-loop-test.before.loop.invariant at-loop-test.loop-test.true
     (omega (arith, larger-done.before.shared-slice-known2.given at-loop-test.before.loop.i))
     larger-done.larger.ensures c.smaller.ensures
 
 pub row-ends-spec : {M : Type 1} → statement M
 row-ends-spec =
     tie.close
-    (tie.spec invariant-loop decreases-loop (λ c. values-none _)
+    (tie.spec invariant-loop decreases-loop (λ c. values_none _)
     (λ c. omega arith) (λ c. omega arith) (λ c κs. search rules) (λ c κs. search rules) (λ c. omega arith)
-    (λ c. omega arith) loop-again (λ c. values-all c.before.loop.invariant c.loop-test.false))
+    (λ c. omega arith) loop-again (λ c. values_all c.before.loop.invariant c.loop-test.false))

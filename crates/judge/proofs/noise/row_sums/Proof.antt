@@ -28,7 +28,7 @@ row-sums-spec =
     tie.close
     (tie.spec invariant-loop decreases-loop (λ c. pixels-none) (λ c. omega arith) (λ c κs. search rules) (λ c. omega arith) (λ c. omega arith)
     (λ c κs. search rules) (λ c. omega arith)
-    (λ c. omega (arith, (loop-again c).sums.of-squares.most))
-    (λ c. omega (arith, (loop-again c).sums.of-squares.most))
+    (λ c. omega (arith, (loop-again c).sums.of_squares.most))
+    (λ c. omega (arith, (loop-again c).sums.of_squares.most))
     (λ c. omega arith) (λ c. omega arith) (λ c. omega arith) (λ c. omega arith) (λ c. omega arith) (λ c. omega arith)
     loop-again (λ c. pixels-all c.before.loop.invariant c.loop-test.false))

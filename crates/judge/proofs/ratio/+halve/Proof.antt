@@ -7,7 +7,7 @@ use borrow.Fn.Kinds.{In}
 use borrow.Fn.PlainCycle.{Measures, is, falls, and}
 use Rattle.arithmetic.proofs.Greatest.{not-empty, upper-half, lower-half, narrowed}
 use Rattle.judge.specs.inside.Wide.{Halving}
-use Rattle.judge.proofs.Ratios.{answered-yes, answered-no, compared-falls}
+use Rattle.judge.proofs.Ratios.{answered_yes, answered_no, compared_falls}
 use Rattle.judge.proofs.ratio.halve.Reads as halve
 use Rattle.judge.proofs.ratio.halve.Kinds as halve-kinds
 use Rattle.judge.proofs.ratio.+halve.Lts-halve as halve-lts
@@ -43,7 +43,7 @@ module _ (t : ℕ) where
       let p = asked c.before.before.before in (
         omega arith,
         record {
-          between = upper-half p.between (answered-yes _ _ c.before.reaches.ensures c.if2.true);
+          between = upper-half p.between (answered_yes _ _ c.before.reaches.ensures c.if2.true);
           number = p.number;
           side = p.side;
         },
@@ -55,7 +55,7 @@ module _ (t : ℕ) where
       let p = asked c.before.before.before in (
         omega arith,
         record {
-          between = lower-half p.between (compared-falls _ _) (answered-no _ _ c.before.reaches.ensures c.if2.false);
+          between = lower-half p.between (compared_falls _ _) (answered_no _ _ c.before.reaches.ensures c.if2.false);
           number = omega arith;
           side = p.side;
         },

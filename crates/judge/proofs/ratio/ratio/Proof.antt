@@ -7,23 +7,23 @@ use lib.Dec.{lit<, lit≤}
 use borrow.Author.Rules.{rules}
 use borrow.Author.Tests.{not-true, not-false}
 use Rattle.judge.specs.inside.Wide.{value, Compared}
-use Rattle.judge.proofs.Digits.{product-room}
-use Rattle.judge.proofs.Ratios.{answered-yes, answered-no, product, product-most, end-most, Sides, left-most}
+use Rattle.judge.proofs.Digits.{product_room}
+use Rattle.judge.proofs.Ratios.{answered_yes, answered_no, product, product_most, end_most, Sides, left-most}
 use Rattle.judge.proofs.Ratios.{quotient-least, starts, found, none_found}
 use Rattle.judge.proofs.ratio.ratio.Statement.{statement}
 use Rattle.judge.proofs.ratio.ratio.Tie as tie
 
 -- how large the product is
 most : (at-start : tie.Start) → product at-start.args.count at-start.args.span ≤ 3422552064000
-most at-start = product-most at-start.requires
+most at-start = product_most at-start.requires
 
 times-requires : tie.Need-times-requires
-times-requires c κs = product-room {m = 2 ^ 62} (rw c.of.ensures c.before.requires.noise.most) (le_refl 256) (lit≤ tt) (lit< tt)
+times-requires c κs = product_room {m = 2 ^ 62} (rw c.of.ensures c.before.requires.noise.most) (le_refl 256) (lit≤ tt) (lit< tt)
 
 times-requires-2 : tie.Need-times-requires-2
 times-requires-2 c κs =
     let small = most c.before.before.before in
-    product-room {m = 3422552064000} (rw c.of2.ensures small) small (lit≤ tt) (lit< tt)
+    product_room {m = 3422552064000} (rw c.of2.ensures small) small (lit≤ tt) (lit< tt)
 
 -- the two sides are made
 module _ (sides-made : tie.After-times2) where
@@ -47,10 +47,10 @@ module _ (past-zero : tie.Else1) where
   sides-here = past-zero.before.before
 
   zero-reaches : Compared (value (left-made sides-here).times.result 10) (value sides-here.times2.result 10) 0
-  zero-reaches = answered-yes _ _ past-zero.before.reaches.ensures (not-false _ past-zero.if1.left)
+  zero-reaches = answered_yes _ _ past-zero.before.reaches.ensures (not-false _ past-zero.if1.left)
 
 returns : tie.Need-returns
-returns c = none_found (sides c.before.before) (answered-no _ _ c.before.reaches.ensures (not-true _ c.if1.true))
+returns c = none_found (sides c.before.before) (answered_no _ _ c.before.reaches.ensures (not-true _ c.if1.true))
 
 sub-hi : tie.Need-overflow-sub-hi
 sub-hi c =
@@ -64,7 +64,7 @@ halve-requires c κs =
     let begun = at-start (sides-here past-zero) in
     record {
       between = starts s c.before.power-below-root.ensures c.less-138.ensures (zero-reaches past-zero);
-      number = end-most _ (most begun);
+      number = end_most _ (most begun);
       side = left-most s begun.pre.noise;
     }
 

@@ -2,14 +2,14 @@
 -- Assumes nothing.
 use native.Mathlib.Omega.{arith}
 use borrow.Author.Rules.{rules}
-use Rattle.judge.proofs.Ratios.{once-room, twice-room, twice-is-square}
+use Rattle.judge.proofs.Ratios.{once-room, twice-room, twice_is_square}
 use Rattle.judge.proofs.ratio.reaches.Statement.{statement}
 use Rattle.judge.proofs.ratio.reaches.Tie as tie
 
 returns : tie.Need-returns
 returns c =
     let once-made = c.before.before in
-    rw (← twice-is-square _ _ once-made.times.ensures c.before.times2.ensures) c.at_most.ensures
+    rw (← twice_is_square _ _ once-made.times.ensures c.before.times2.ensures) c.at_most.ensures
 
 pub reaches-spec : {M : Type 1} → statement M
 reaches-spec =

@@ -4,7 +4,7 @@ use Prim.Native.Nat.{◌+◌, ◌-◌, ◌*◌, ◌≤◌}
 use mathlib.Core.Path.{refl}
 use native.Mathlib.Omega.{arith}
 use borrow.Author.Rules.{rules}
-use Rattle.judge.proofs.Digits.{Multiplied, multiplied-none, with-carry, multiplied-more, multiplied-all}
+use Rattle.judge.proofs.Digits.{Multiplied, multiplied_none, with-carry, multiplied-more, multiplied-all}
 use Rattle.judge.proofs.wide.times_plus.Statement.{statement}
 use Rattle.judge.proofs.wide.times_plus.Tie as tie
 
@@ -27,7 +27,7 @@ loop-again c = multiplied-more c.before.before.loop.invariant c.digit.ensures c.
 pub times-plus-spec : {M : Type 1} → statement M
 times-plus-spec =
     tie.close
-    (tie.spec invariant-loop decreases-loop (λ c. multiplied-none _ refl c.requires.carry)
+    (tie.spec invariant-loop decreases-loop (λ c. multiplied_none _ refl c.requires.carry)
     (λ c. search rules) (λ c. search rules) (λ c κs. search rules) (λ c. omega (arith, room c)) (λ c. omega (arith, room c))
     (λ c. omega arith) (λ c. omega arith) (λ c. omega arith) (λ c. omega arith) (λ c. omega arith) loop-again
     (λ c. multiplied-all c.before.loop.invariant c.before.before.requires c.loop-test.false))

@@ -6,7 +6,7 @@ use borrow.Author.Rules.{rules}
 use mir.Syntax.{w64}
 use mir.Val.{to_z, of_z}
 use Rattle.arithmetic.specs.Lists.{AtMost}
-use Rattle.sample.specs.inside.Asked.{rowSum, rowFrom}
+use Rattle.sample.specs.inside.Asked.{row_sum, row_from}
 use Rattle.sample.proofs.Summing.{returned, Turn, product-room, sum_room, summed-more}
 use Rattle.sample.proofs.Rows.{Rows, rows_none, rows_more, rows_all, RowIn, row_in}
 use Rattle.sample.proofs.Reach.{rows-room}
@@ -44,7 +44,7 @@ module _ (row_done : tie.After-row-sum invariant-loop decreases-loop) where
   this-turn = row_done.before.before
 
   turn : let a = (at-start this-turn).args in
-      Turn a.row.remainder (rowFrom a.levels.now a.width a.column.pixel a.row.pixel a.column.remainder)
+      Turn a.row.remainder (row_from a.levels.now a.width a.column.pixel a.row.pixel a.column.remainder)
       (at-loop this-turn).loop.sum (at-loop this-turn).loop.r
       (to_z w64 (of_z w64 row_done.before.weight.result)) (to_z w64 (of_z w64 row_done.row-sum.result))
   turn =
@@ -58,10 +58,10 @@ module _ (row_done : tie.After-row-sum invariant-loop decreases-loop) where
         so_far = o.inv.so_far;
         one_more = this-turn.loop-test.taken;
         room = rows-room a.levels.now bytes a.width _ _ _ _ p.across p.down;
-        is-weight = returned (record { sfits = weight.ok }) weight.ensures;
+        is_weight = returned (record { sfits = weight.ok }) weight.ensures;
         is_number =
             returned (record { sfits = row.ok }) row.ensures
-            ∙ ap (λ (at : ℕ). rowSum a.levels.now at a.column.remainder) o.inv.starts;
+            ∙ ap (λ (at : ℕ). row_sum a.levels.now at a.column.remainder) o.inv.starts;
       }
 
 loop-again : tie.Need-loop-preserved invariant-loop decreases-loop

@@ -9,5 +9,5 @@ pub difference-spec : {M : Type 1} → statement M
 difference-spec =
     tie.close
     (tie.spec (λ c. search rules) (λ c. search rules)
-    (λ c. diff-fits w64 c.args.added c.args.taken c.requires.added-low c.requires.taken-low)
-    (λ c. diff-gives w64 c.args.added c.args.taken c.requires.added-low c.requires.taken-low))
+    (λ c. diff-fits w64 c.args.added c.args.taken c.requires.added_low c.requires.taken_low)
+    (λ c. diff-gives w64 c.args.added c.args.taken c.requires.added_low c.requires.taken_low))

@@ -7,14 +7,14 @@ use mir.Syntax.{w64}
 use mir.Val.{to_z, of_z}
 use mir.ValLaws.{to_z_pos}
 use Rattle.arithmetic.specs.Lists.{AtMost}
-use Rattle.sample.specs.inside.Asked.{levelFrom, rowSum}
-use Rattle.sample.proofs.Summing.{returned, Summed, summed-none, summed-all, Turn, product-room, sum_room, summed-more}
+use Rattle.sample.specs.inside.Asked.{level_from, row_sum}
+use Rattle.sample.proofs.Summing.{returned, Summed, summed_none, summed_all, Turn, product-room, sum_room, summed-more}
 use Rattle.sample.proofs.Reach.{columns-room}
 use Rattle.sample.proofs.cubic.row_sum.Statement.{statement}
 use Rattle.sample.proofs.cubic.row_sum.Tie as tie
 
 abbrev invariant-loop : tie.invariant-loop
-invariant-loop levels at k sum₀ t₀ sum t = Summed k (levelFrom levels at) sum t
+invariant-loop levels at k sum₀ t₀ sum t = Summed k (level_from levels at) sum t
 
 abbrev decreases-loop : tie.decreases-loop
 decreases-loop levels at k sum₀ t₀ sum t = 4 - t
@@ -35,7 +35,7 @@ module _ (level-read : tie.After-shared-slice-known2 invariant-loop decreases-lo
 
   -- it is added under its weight
   turn : let a = at-start.args in
-      Turn a.k (levelFrom a.levels.now a.at) at-loop.loop.sum at-loop.loop.t
+      Turn a.k (level_from a.levels.now a.at) at-loop.loop.sum at-loop.loop.t
       (to_z w64 (of_z w64 level-read.before.weight.result)) (to_z w64 (get_or a.levels.now place 0))
   turn =
       let a = at-start.args in
@@ -44,18 +44,18 @@ module _ (level-read : tie.After-shared-slice-known2 invariant-loop decreases-lo
         so_far = at-loop.loop.inv;
         one_more = omega arith;
         room = columns-room a.levels.now bytes a.at a.k at-start.pre.remainder;
-        is-weight = returned (record { sfits = weight.ok }) weight.ensures;
+        is_weight = returned (record { sfits = weight.ok }) weight.ensures;
         is_number = to_z_pos w64 (get_or a.levels.now place 0) (omega (arith, bytes place));
       }
 
 returns : tie.Need-returns invariant-loop decreases-loop
-unfolding rowSum
-returns c = summed-all c.before.loop.invariant c.loop-test.false
+unfolding row_sum
+returns c = summed_all c.before.loop.invariant c.loop-test.false
 
 pub row-sum-spec : {M : Type 1} → statement M
 row-sum-spec =
     tie.close
-    (tie.spec invariant-loop decreases-loop (λ c. summed-none _ _) (λ c κs. search rules) (λ c. omega arith) (λ c. omega arith)
+    (tie.spec invariant-loop decreases-loop (λ c. summed_none _ _) (λ c κs. search rules) (λ c. omega arith) (λ c. omega arith)
     (λ c. record { sfits = omega (arith, bytes c (place c)) })
     (λ c. product-room (turn c)) (λ c. sum_room (turn c)) (λ c. omega arith) (λ c. omega arith) (λ c. summed-more (turn c))
     returns)

@@ -4,7 +4,7 @@ use Prim.Native.Nat.{◌+◌, ◌*◌, ◌%◌, ◌≤◌}
 use native.Mathlib.Omega.{arith}
 use borrow.Author.Rules.{rules}
 use lib.ListN.{length}
-use Rattle.scan.proofs.Twos.{place-fits, is-replaced}
+use Rattle.scan.proofs.Twos.{place_fits, is-replaced}
 use Rattle.scan.proofs.steps.pass.Statement.{statement}
 use Rattle.scan.proofs.steps.pass.Tie as tie
 
@@ -16,7 +16,7 @@ module _ (completed : tie.After-complete) where
   fits : let given = at-start.args in given.k % 2 * given.width + length given.row.now ≤ length given.two.now
   fits =
       let given = at-start.args in
-      place-fits given.width given.k given.late given.two.now given.row.now at-start.pre.below
+      place_fits given.width given.k given.late given.two.now given.row.now at-start.pre.below
 
 complete-requires : tie.Need-complete-requires
 complete-requires c κs =
@@ -31,8 +31,8 @@ returns c =
     let given = (at-start completed).args in
     let is = put_in.put.ensures in
     record {
-      two-are = is-replaced given.width given.height given.k given.late given.two.now given.row.now _ is;
-      out-is = completed.complete.ensures;
+      two_are = is-replaced given.width given.height given.k given.late given.two.now given.row.now _ is;
+      out_is = completed.complete.ensures;
     }
 
 pub pass_spec : {M : Type 1} → statement M

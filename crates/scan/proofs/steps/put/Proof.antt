@@ -3,8 +3,8 @@ use mathlib.Core.Path.{refl}
 use Prim.Native.Nat.{◌-◌, ◌≤◌}
 use native.Mathlib.Omega.{arith}
 use lib.ListN.{length, get_or}
-use Rattle.arithmetic.proofs.Turns.{Turn, first-turn, next-turn}
-use Rattle.arithmetic.proofs.Writing.{Overwritten, overwritten-none, overwritten-more, overwritten-all}
+use Rattle.arithmetic.proofs.Turns.{Turn, first_turn, next_turn}
+use Rattle.arithmetic.proofs.Writing.{Overwritten, overwritten_none, overwritten_more, overwritten_all}
 use Rattle.scan.proofs.steps.put.Statement.{statement}
 use Rattle.scan.proofs.steps.put.Tie as tie
 
@@ -20,20 +20,20 @@ loop-again c =
     let given = at-loop.before.args in
     let turn = at-loop.loop in
     let so_far = turn.invariant.so_far in
-    next-turn turn.invariant (omega arith)
-    (overwritten-more given.rows.now given.at _ turn.rows turn.i _ (omega arith) refl so_far)
+    next_turn turn.invariant (omega arith)
+    (overwritten_more given.rows.now given.at _ turn.rows turn.i _ (omega arith) refl so_far)
 
 returns : tie.Need-returns invariant-loop decreases-loop
 returns past-loop =
     let at-loop = past-loop.before in
     let given = at-loop.before.args in
     let so_far = at-loop.loop.invariant.so_far in
-    overwritten-all given.rows.now given.at given.row.now _ at-loop.loop.i (omega arith) so_far
+    overwritten_all given.rows.now given.at given.row.now _ at-loop.loop.i (omega arith) so_far
 
 pub put_spec : {M : Type 1} → statement M
 put_spec =
     tie.close
     (tie.spec invariant-loop decreases-loop
-    (λ c. first-turn (omega arith) (overwritten-none c.args.rows.now c.args.at _))
+    (λ c. first_turn (omega arith) (overwritten_none c.args.rows.now c.args.at _))
     (λ c. omega arith) (λ c. omega arith) (λ c. omega arith) (λ c. omega arith) (λ c. omega arith) (λ c. omega arith)
     (λ c. omega arith) loop-again (λ c. omega arith) returns)

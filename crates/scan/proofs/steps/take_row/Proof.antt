@@ -9,15 +9,15 @@ use borrow.Author.Rules.{rules}
 use borrow.Rule.Slice.PartMut.{same_len_mid}
 use lib.ListN.{length, take, drop, length-append, length-drop}
 use lib.Seq.{length-take-le}
-use Rattle.memory.specs.Memory.{twoOf}
+use Rattle.memory.specs.Memory.{two_of}
 use Rattle.memory.proofs.Memories.{first_two}
-use Rattle.scan.specs.Ring.{heldIn, replaced}
+use Rattle.scan.specs.Ring.{held_in, replaced}
 use Rattle.scan.proofs.SixRows.{second-two, third-two, all_three}
-use Rattle.scan.specs.Held.{passOneRow, passTwoRow}
+use Rattle.scan.specs.Held.{pass_one_row, pass_two_row}
 use Rattle.scan.specs.inside.Asked.{long}
 use Rattle.scan.proofs.Shown.{long-most}
 use Rattle.scan.proofs.Turns.{length-next}
-use Rattle.scan.proofs.Passing.{front-is, Arriving, length-pass-one-row, length-pass-two-row, below-levels, below-pass-one}
+use Rattle.scan.proofs.Passing.{front_is, Arriving, length-pass-one-row, length-pass-two-row, below-levels, below-pass-one}
 use Rattle.scan.proofs.Passing.{below-pass-two}
 use Rattle.scan.proofs.Passing.{pass-one-is-row, pass-two-is-row, pass-three-is-row, two-are, length-two-are, rows_are}
 use Rattle.scan.proofs.steps.take_row.Statement.{statement}
@@ -30,9 +30,9 @@ record Lengths (w h k rows levels widened halves quarters : ℕ) : Type 0 where
   levels-fit : levels ≤ w
   halves-fit : long w h k 1 ≤ w
   quarters-fit : long w h k 2 ≤ w
-  widened-room : w ≤ widened
-  halves-room : w ≤ halves
-  quarters-room : w ≤ quarters
+  widened_room : w ≤ widened
+  halves_room : w ≤ halves
+  quarters_room : w ≤ quarters
 
 -- ---- the levels are widened
 module _ (widened : tie.After-widen) where
@@ -69,7 +69,7 @@ module _ (widened : tie.After-widen) where
   }
 
   widened_is : take (length levels) widened.widen.last.1.0 ≡ levels
-  widened_is = front-is (length levels) widened.widen.last.1.0 levels _ widened.widen.ensures refl
+  widened_is = front_is (length levels) widened.widen.last.1.0 levels _ widened.widen.ensures refl
 
 -- what is known of lengths all the way
 lengths : (at-start : tie.Start) → let a = at-start.args in
@@ -84,9 +84,9 @@ lengths at-start =
       levels-fit = omega (arith, at-start.requires.long_as, long-most a.height a.k 0 a.width);
       halves-fit = long-most a.height a.k 1 a.width;
       quarters-fit = long-most a.height a.k 2 a.width;
-      widened-room = at-start.requires.widened-room;
-      halves-room = at-start.requires.halves-room;
-      quarters-room = at-start.requires.quarters-room;
+      widened_room = at-start.requires.widened_room;
+      halves_room = at-start.requires.halves_room;
+      quarters_room = at-start.requires.quarters_room;
     }
 
 -- ---- pass one is made
@@ -110,20 +110,20 @@ module _ (one : tie.After-pass) where
   abbrev halves : List ℕ
   halves = one.pass.last.1.1.1.1.1.1.0
 
-  a-is : a ≡ replaced w₁ (k widened₁) (twoOf w₁ rows₁ 0) levels₁
-  a-is = two-are (arriving widened₁) 0 _ _ a _ (first_two w₁ rows₁) (widened_is widened₁) one.pass.ensures.two-are
+  a_is : a ≡ replaced w₁ (k widened₁) (two_of w₁ rows₁ 0) levels₁
+  a_is = two-are (arriving widened₁) 0 _ _ a _ (first_two w₁ rows₁) (widened_is widened₁) one.pass.ensures.two-are
 
   a-long : length a ≡ w₁ + w₁
-  a-long = length-two-are (arriving widened₁) 0 0 (omega arith) a levels₁ (arriving widened₁).long_as a-is
+  a-long = length-two-are (arriving widened₁) 0 0 (omega arith) a levels₁ (arriving widened₁).long_as a_is
 
-  halves-is : halves ≡ passOneRow (heldIn w₁ (h widened₁) (k widened₁) rows₁) levels₁ ++ drop (long w₁ (h widened₁) (k widened₁) 1)
+  halves-is : halves ≡ pass_one_row (held_in w₁ (h widened₁) (k widened₁) rows₁) levels₁ ++ drop (long w₁ (h widened₁) (k widened₁) 1)
       (start widened₁).args.halves.now
-  halves-is = pass-one-is-row (arriving widened₁) _ _ halves _ (first_two w₁ rows₁) (widened_is widened₁) one.pass.ensures.out-is
+  halves-is = pass-one-is-row (arriving widened₁) _ _ halves _ (first_two w₁ rows₁) (widened_is widened₁) one.pass.ensures.out_is
 
   halves-front : take (rows-known widened₁).long.result halves
-      ≡ passOneRow (heldIn w₁ (h widened₁) (k widened₁) rows₁) levels₁
+      ≡ pass_one_row (held_in w₁ (h widened₁) (k widened₁) rows₁) levels₁
   halves-front =
-      front-is _ halves _ _ halves-is (length-pass-one-row (arriving widened₁) ∙ sym (rows-known widened₁).long.ensures)
+      front_is _ halves _ _ halves-is (length-pass-one-row (arriving widened₁) ∙ sym (rows-known widened₁).long.ensures)
 
 -- ---- pass two is made
 module _ (two : tie.After-pass2) where
@@ -158,23 +158,23 @@ module _ (two : tie.After-pass2) where
   abbrev quarters : List ℕ
   quarters = two.pass2.last.1.1.1.1.1.1.0
 
-  b-is : b ≡ replaced w₂ (k widened₂) (twoOf w₂ rows₂ 1) (passOneRow (heldIn w₂ (h widened₂) (k widened₂) rows₂) (levels widened₂))
-  b-is =
+  b_is : b ≡ replaced w₂ (k widened₂) (two_of w₂ rows₂ 1) (pass_one_row (held_in w₂ (h widened₂) (k widened₂) rows₂) (levels widened₂))
+  b_is =
       two-are (arriving widened₂) 1 _ _ b _ (second-two w₂ rows₂ (a one₂) (a-long one₂)) (halves-front one₂) two.pass2.ensures.two-are
 
   b-long : length b ≡ w₂ + w₂
-  b-long = length-two-are (arriving widened₂) 1 1 (omega arith) b _ (length-pass-one-row (arriving widened₂)) b-is
+  b-long = length-two-are (arriving widened₂) 1 1 (omega arith) b _ (length-pass-one-row (arriving widened₂)) b_is
 
-  quarters-is : quarters ≡ passTwoRow (heldIn w₂ (h widened₂) (k widened₂) rows₂) (levels widened₂) ++ drop
+  quarters-is : quarters ≡ pass_two_row (held_in w₂ (h widened₂) (k widened₂) rows₂) (levels widened₂) ++ drop
       (long w₂ (h widened₂) (k widened₂) 2) (start widened₂).args.quarters.now
   quarters-is =
       pass-two-is-row (arriving widened₂) _ _ quarters _ (second-two w₂ rows₂ (a one₂) (a-long one₂)) (halves-front one₂)
-      two.pass2.ensures.out-is
+      two.pass2.ensures.out_is
 
   quarters-front : take widened₂.before.before.long2.result quarters
-      ≡ passTwoRow (heldIn w₂ (h widened₂) (k widened₂) rows₂) (levels widened₂)
+      ≡ pass_two_row (held_in w₂ (h widened₂) (k widened₂) rows₂) (levels widened₂)
   quarters-front =
-      front-is _ quarters _ _ quarters-is (length-pass-two-row (arriving widened₂) ∙ sym widened₂.before.before.long2.ensures)
+      front_is _ quarters _ _ quarters-is (length-pass-two-row (arriving widened₂) ∙ sym widened₂.before.before.long2.ensures)
 
 -- ---- pass three is made
 module _ (three : tie.After-pass3) where
@@ -199,8 +199,8 @@ module _ (three : tie.After-pass3) where
   abbrev c : List ℕ
   c = three.pass3.last.0
 
-  c-is : c ≡ replaced w₃ (k widened₃) (twoOf w₃ rows₃ 2) (passTwoRow (heldIn w₃ (h widened₃) (k widened₃) rows₃) (levels widened₃))
-  c-is =
+  c_is : c ≡ replaced w₃ (k widened₃) (two_of w₃ rows₃ 2) (pass_two_row (held_in w₃ (h widened₃) (k widened₃) rows₃) (levels widened₃))
+  c_is =
       two-are (arriving widened₃) 2 _ _ c _ (third-two w₃ rows₃ (a one₃) (a-long one₃) (b two₃) (b-long two₃)) (quarters-front two₃)
       three.pass3.ensures.two-are
 
@@ -214,8 +214,8 @@ rows-and-out end =
     let third = third-two (w₃ three) (rows₃ three) (a one) (a-long one) (b two) (b-long two) in
     let all = all_three (w₃ three) (rows₃ three) (a one) (a-long one) (b two) (b-long two) (c three) in
     record {
-      rows_are = rows_are (arriving (widened₃ three)) _ (a one) (b two) (c three) all (a-is one) (b-is two) (c-is three);
-      out-is = pass-three-is-row (arriving (widened₃ three)) _ _ _ _ third (quarters-front two) three.pass3.ensures.out-is;
+      rows_are = rows_are (arriving (widened₃ three)) _ (a one) (b two) (c three) all (a_is one) (b_is two) (c_is three);
+      out_is = pass-three-is-row (arriving (widened₃ three)) _ _ _ _ third (quarters-front two) three.pass3.ensures.out_is;
     }
 
 same_length : tie.Need-same-length
@@ -241,7 +241,7 @@ pass-requires c κs =
     let known = lengths (start widened) in
     record {
       below = below-levels (arriving widened) _ _ (first_two (w widened) (rows widened)) (widened_is widened);
-      room = le_trans known.halves-fit known.halves-room;
+      room = le_trans known.halves-fit known.halves_room;
     }
 
 pass-requires-2 : tie.Need-pass-requires-2
@@ -252,7 +252,7 @@ pass-requires-2 c κs =
     let second = second-two (w₁ one) (rows₁ one) (a one) (a-long one) in
     record {
       below = below-pass-one (arriving (widened₁ one)) _ _ second (halves-front one);
-      room = le_trans known.quarters-fit known.quarters-room;
+      room = le_trans known.quarters-fit known.quarters_room;
     }
 
 pass-requires-3 : tie.Need-pass-requires-3
@@ -274,16 +274,16 @@ widen-requires c κs =
     omega (arith, lengths levels-known.before.before)
 
 -- the parts that are lent are as long as they are said to be
-widened-room : (widened : tie.After-widen) → length (levels widened) ≤ length widened.widen.new.1.0
-widened-room widened = omega (arith, lengths (start widened), widened.widen.auto.1.0)
+widened_room : (widened : tie.After-widen) → length (levels widened) ≤ length widened.widen.new.1.0
+widened_room widened = omega (arith, lengths (start widened), widened.widen.auto.1.0)
 
-halves-room : (one : tie.After-pass) → (rows-known (widened₁ one)).long.result ≤ length (halves one)
-halves-room one =
+halves_room : (one : tie.After-pass) → (rows-known (widened₁ one)).long.result ≤ length (halves one)
+halves_room one =
     let kept = one.pass.auto.1.1.1.1.1.1.0 in
     omega (arith, lengths (start (widened₁ one)), kept, (rows-known (widened₁ one)).long.ensures)
 
-quarters-room : (two : tie.After-pass2) → (widened₂ two).before.before.long2.result ≤ length (quarters two)
-quarters-room two =
+quarters_room : (two : tie.After-pass2) → (widened₂ two).before.before.long2.result ≤ length (quarters two)
+quarters_room two =
     let kept = two.pass2.auto.1.1.1.1.1.1.0 in
     omega (arith, lengths (start (widened₂ two)), kept, (widened₂ two).before.before.long2.ensures)
 
@@ -294,16 +294,16 @@ take-row-spec =
     widen-requires
     (λ c. omega (arith, lengths (start c.before.before)))
     (λ c. sym (length-take-le _ _ (omega (arith, lengths (start c.before.before.before)))))
-    (λ c. widened-room c.before.before.before)
-    (λ c. let lent = c.before.before in sym (length-take-le _ _ (widened-room lent.before.before)))
+    (λ c. widened_room c.before.before.before)
+    (λ c. let lent = c.before.before in sym (length-take-le _ _ (widened_room lent.before.before)))
     pass-requires (λ c. search rules) (λ c. search rules) (λ c. search rules) (λ c. search rules)
-    (λ c. let lent = c.before.before in halves-room lent.before.before.before)
-    (λ c. let lent = c.before.before.before in sym (length-take-le _ _ (halves-room (one_of lent))))
+    (λ c. let lent = c.before.before in halves_room lent.before.before.before)
+    (λ c. let lent = c.before.before.before in sym (length-take-le _ _ (halves_room (one_of lent))))
     pass-requires-2
     (λ c. let rows-lent = c.before.before.before in omega (arith, lengths (start (widened₂ (two-of rows-lent)))))
     (λ c. search rules) (λ c. search rules)
     (λ c. let two = two-of c.before.before.before in omega (arith, lengths (start (widened₂ two)), twice-long two))
-    (λ c. let lent = c.before.before in quarters-room lent.before.before.before)
-    (λ c. let lent = c.before.before.before in sym (length-take-le _ _ (quarters-room (two-of lent.before.before))))
+    (λ c. let lent = c.before.before in quarters_room lent.before.before.before)
+    (λ c. let lent = c.before.before.before in sym (length-take-le _ _ (quarters_room (two-of lent.before.before))))
     pass-requires-3 same_length (λ c. search rules) (λ c. search rules) (λ c. search rules) (λ c. search rules)
     rows-and-out)

@@ -8,19 +8,19 @@ use borrow.Author.Rules.{rules}
 use borrow.Rule.Slice.PartMut.{same_len_mid}
 use lib.ListN.{length, take, drop, length-take, length-drop}
 use Rattle.arithmetic.specs.Lists.{AtMost}
-use Rattle.arithmetic.proofs.Order.{row-end}
+use Rattle.arithmetic.proofs.Order.{row_end}
 use Rattle.memory.specs.Memory.{row_at}
-use Rattle.scan.specs.Ring.{heldIn}
+use Rattle.scan.specs.Ring.{held_in}
 use Rattle.scan.specs.Held.{given}
 use Rattle.scan.specs.inside.Asked.{long}
-use Rattle.scan.proofs.Taking.{Taken, taken_none, given-grows, given-count, taken-all, part-long, turn}
+use Rattle.scan.proofs.Taking.{Taken, taken_none, given_grows, given-count, taken-all, part-long, turn}
 use Rattle.scan.proofs.steps.take_rows.Statement.{statement}
 use Rattle.scan.proofs.steps.take_rows.Tie as tie
 
 -- what holds before turn i
 record Turn (w h k each n : ℕ) (levels rows₀ output₀ rows output widened halves quarters : List ℕ) (i at done : ℕ) : Type 0 where
   within : i ≤ n
-  at-is : at ≡ i * each
+  at_is : at ≡ i * each
   widened-long : length widened ≡ 1024
   halves_long : length halves ≡ 1024
   quarters-long : length quarters ≡ 1024
@@ -42,7 +42,7 @@ loop-holds c =
     let a = at-start.args in
     record {
       within = search rules;
-      at-is = omega arith;
+      at_is = omega arith;
       widened-long = search rules;
       halves_long = search rules;
       quarters-long = search rules;
@@ -80,15 +80,15 @@ module _ (turning : tie.In-loop invariant-loop decreases-loop) where
       let l = turning.before.loop in
       let so_far = l.inv.taken in
       let coming = start.pre.coming in
-      let held = heldIn a.width a.height a.k a.rows.now in
+      let held = held_in a.width a.height a.k a.rows.now in
       let f = row_at a.each a.levels.now in
       let count = so_far.count in
-      let before = le_trans (given-grows held f l.i a.n (omega arith)) coming.room in
-      let then = le_trans (given-grows held f (l.i + 1) a.n (omega arith)) coming.room in
+      let before = le_trans (given_grows held f l.i a.n (omega arith)) coming.room in
+      let then = le_trans (given_grows held f (l.i + 1) a.n (omega arith)) coming.room in
       let more =
       given-count a.width a.height a.k a.rows.now f a.output.now l.i l.done l.rows l.output so_far in
       record {
-        inside = omega (arith, row-end a.each a.n l.i (omega arith), coming.levels-are, l.inv.at-is);
+        inside = omega (arith, row_end a.each a.n l.i (omega arith), coming.levels_are, l.inv.at_is);
         row-there = coming.rows_are l.i (omega arith);
         few = omega (arith, coming.few);
         one_more = omega arith;
@@ -113,11 +113,11 @@ take-row-requires c κs =
     let width = (start turning).pre.ready.width in
     record {
       ready = turn.inv.taken.ready;
-      long_as = part-long a.each turn.i turn.at a.levels.now turn.inv.at-is is.inside _ is.row-there;
+      long_as = part-long a.each turn.i turn.at a.levels.now turn.inv.at_is is.inside _ is.row-there;
       room = simp (length-take, length-drop) (omega (arith, is.room, turn.inv.output-long));
-      widened-room = omega (arith, width, turn.inv.widened-long);
-      halves-room = omega (arith, width, turn.inv.halves_long);
-      quarters-room = omega (arith, width, turn.inv.quarters-long);
+      widened_room = omega (arith, width, turn.inv.widened-long);
+      halves_room = omega (arith, width, turn.inv.halves_long);
+      quarters_room = omega (arith, width, turn.inv.quarters-long);
     }
 
 -- and from past the row that was taken
@@ -143,16 +143,16 @@ loop-again c =
     let out = row.last.1.1.1.1.1.1.1.1.0 in
     record {
       within = is.one_more;
-      at-is = omega (arith, so_far.at-is);
+      at_is = omega (arith, so_far.at_is);
       widened-long = kept.0 ∙ so_far.widened-long;
       halves_long = kept.1.0 ∙ so_far.halves_long;
       quarters-long = kept.1.1.0 ∙ so_far.quarters-long;
       rows_long = row.kept.0 ∙ so_far.rows_long;
       output-long = same_len_mid l.done (length l.output - l.done) l.output out kept.1.1.1.0 ∙ so_far.output-long;
       taken =
-          turn a.each l.i l.at a.levels.now so_far.at-is is.inside a.width a.height a.k l.done _
+          turn a.each l.i l.at a.levels.now so_far.at_is is.inside a.width a.height a.k l.done _
           a.rows.now a.output.now l.rows l.output row.last.0 _ out so_far.taken is.row-there (bytes turning)
-          is.few row.ensures.rows_are row.ensures.out-is refl (ap (λ (z : ℕ). l.done + z) c.long.ensures);
+          is.few row.ensures.rows_are row.ensures.out_is refl (ap (λ (z : ℕ). l.done + z) c.long.ensures);
     }
 
 returns : tie.Need-returns invariant-loop decreases-loop
@@ -165,7 +165,7 @@ returns past-loop =
     let all =
     taken-all a.width a.height a.k a.rows.now (row_at a.each a.levels.now) a.output.now l.i a.n
     l.done l.rows l.output (omega arith) l.invariant.taken in
-    record { rows_are = all.0; output-is = all.1 }
+    record { rows_are = all.0; output_is = all.1 }
 
 pub take-rows-spec : {M : Type 1} → statement M
 take-rows-spec =

@@ -3,8 +3,8 @@ use mathlib.Core.Path.{refl}
 use Prim.Native.Nat.{◌-◌, ◌≤◌}
 use native.Mathlib.Omega.{arith}
 use lib.ListN.{length, get_or}
-use Rattle.arithmetic.proofs.Turns.{Turn, first-turn, next-turn}
-use Rattle.arithmetic.proofs.Writing.{Overwritten, overwritten-none, overwritten-front, overwritten-all}
+use Rattle.arithmetic.proofs.Turns.{Turn, first_turn, next_turn}
+use Rattle.arithmetic.proofs.Writing.{Overwritten, overwritten_none, overwritten_front, overwritten_all}
 use Rattle.scan.proofs.steps.widen.Statement.{statement}
 use Rattle.scan.proofs.steps.widen.Tie as tie
 
@@ -19,21 +19,21 @@ loop-again c =
     let at-loop = c.before.before in
     let turn = at-loop.loop in
     let so_far = turn.invariant.so_far in
-    next-turn turn.invariant (omega arith)
-    (overwritten-front at-loop.before.args.out.now _ turn.out turn.i _ (omega arith) refl so_far)
+    next_turn turn.invariant (omega arith)
+    (overwritten_front at-loop.before.args.out.now _ turn.out turn.i _ (omega arith) refl so_far)
 
 returns : tie.Need-returns invariant-loop decreases-loop
 returns past-loop =
     let at-loop = past-loop.before in
     let given = at-loop.before.args in
     let so_far = at-loop.loop.invariant.so_far in
-    overwritten-all given.out.now 0 given.levels.now _ at-loop.loop.i (omega arith) so_far
+    overwritten_all given.out.now 0 given.levels.now _ at-loop.loop.i (omega arith) so_far
 
 pub widen_spec : {M : Type 1} → statement M
 widen_spec =
     tie.close
     (tie.spec invariant-loop decreases-loop
-    (λ c. first-turn (omega arith) (overwritten-none c.args.out.now 0 _))
+    (λ c. first_turn (omega arith) (overwritten_none c.args.out.now 0 _))
     (λ c. omega arith)
     (λ c. omega (arith, c.shared-slice-known.given c.before.before.loop.i))
     (λ c. omega arith) (λ c. omega arith) (λ c. omega arith) (λ c. omega arith) loop-again (λ c. omega arith) returns)

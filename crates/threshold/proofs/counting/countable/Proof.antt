@@ -3,14 +3,14 @@ use mathlib.Core.Path.{refl}
 use native.Mathlib.Omega.{arith}
 use borrow.Author.Rules.{rules}
 use Rattle.answers.proofs.Refusals.{stops}
-use Rattle.threshold.proofs.Histograms.{countable-is}
+use Rattle.threshold.proofs.Histograms.{countable_is}
 use Rattle.threshold.proofs.counting.countable.Statement.{statement}
 use Rattle.threshold.proofs.counting.countable.Tie as tie
 
 returns-3 : tie.Need-returns-3
 returns-3 c =
     let past-none = c.before.before in
-    countable-is past-none.before.before.args.values.now _ (omega arith) (omega arith) c.at_most.ensures
+    countable_is past-none.before.before.args.values.now _ (omega arith) (omega arith) c.at_most.ensures
 
 pub countable-spec : {M : Type 1} → statement M
 countable-spec =

@@ -4,7 +4,7 @@ use mathlib.Core.List.{List}
 use Prim.Native.Nat.{ℕ, ◌-◌, ◌/◌, ◌<◌, ◌≤◌}
 use native.Mathlib.Omega.{arith}
 use lib.ListN.{length, get_or}
-use Rattle.arithmetic.proofs.Turns.{Turn, first-turn, next-turn, last_turn}
+use Rattle.arithmetic.proofs.Turns.{Turn, first_turn, next_turn, last_turn}
 use Rattle.threshold.specs.inside.Asked.{Added}
 use Rattle.threshold.proofs.Histograms.{counts-none, counts-more, counts-room}
 use Rattle.threshold.proofs.counting.counts_of.Statement.{statement}
@@ -31,14 +31,14 @@ loop-again : tie.Need-loop-preserved invariant-loop decreases-loop
 loop-again c =
     let at-loop = c.before.before in
     let turn = at-loop.loop in
-    next-turn turn.invariant (omega arith)
+    next_turn turn.invariant (omega arith)
     (counts-more (values at-loop) at-loop.before.requires turn.i turn.counts (so_far at-loop))
 
 pub counts-of-spec : {M : Type 1} → statement M
 counts-of-spec =
     tie.close
     (tie.spec invariant-loop decreases-loop
-    (λ c. first-turn (omega arith) (counts-none c.args.values.now))
+    (λ c. first_turn (omega arith) (counts-none c.args.values.now))
     (λ c. omega arith) (λ c. omega arith)
     (λ c. omega (arith, room c.before.before))
     (λ c. omega (arith, room c.before.before))

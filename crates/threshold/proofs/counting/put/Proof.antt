@@ -4,8 +4,8 @@ use mathlib.Core.List.{List}
 use Prim.Native.Nat.{ℕ, ◌-◌, ◌≤◌}
 use native.Mathlib.Omega.{arith}
 use lib.ListN.{length, get_or}
-use Rattle.arithmetic.proofs.Turns.{Turn, first-turn, next-turn}
-use Rattle.arithmetic.proofs.Lists.{Written, written_none, written-more, written_all}
+use Rattle.arithmetic.proofs.Turns.{Turn, first_turn, next_turn}
+use Rattle.arithmetic.proofs.Lists.{Written, written_none, written_more, written_all}
 use Rattle.threshold.proofs.counting.put.Statement.{statement}
 use Rattle.threshold.proofs.counting.put.Tie as tie
 
@@ -19,7 +19,7 @@ loop-again : tie.Need-loop-preserved invariant-loop decreases-loop
 loop-again c =
     let turn = c.before.loop in
     let so_far = turn.invariant.so_far in
-    next-turn turn.invariant (omega arith) (written-more _ turn.histogram turn.v _ (omega arith) refl so_far)
+    next_turn turn.invariant (omega arith) (written_more _ turn.histogram turn.v _ (omega arith) refl so_far)
 
 returns : tie.Need-returns invariant-loop decreases-loop
 returns past-loop =
@@ -33,6 +33,6 @@ pub put_spec : {M : Type 1} → statement M
 put_spec =
     tie.close
     (tie.spec invariant-loop decreases-loop
-    (λ c. first-turn (omega arith) (written_none _ _ c.requires))
+    (λ c. first_turn (omega arith) (written_none _ _ c.requires))
     (λ c. omega arith) (λ c. omega arith) (λ c. omega arith) (λ c. omega arith) (λ c. omega arith) (λ c. omega arith)
     loop-again (λ c. omega arith) returns)

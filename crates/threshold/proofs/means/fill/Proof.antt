@@ -2,8 +2,8 @@
 use Prim.Native.Nat.{◌-◌}
 use native.Mathlib.Omega.{arith}
 use lib.ListN.{length}
-use Rattle.arithmetic.proofs.Turns.{Turn, first-turn, next-turn}
-use Rattle.threshold.proofs.Tables.{Filling, filling-none, filling-more, filling-all, Room, turn-room}
+use Rattle.arithmetic.proofs.Turns.{Turn, first_turn, next_turn}
+use Rattle.threshold.proofs.Tables.{Filling, filling_none, filling-more, filling-all, Room, turn-room}
 use Rattle.threshold.proofs.means.fill.Statement.{statement}
 use Rattle.threshold.proofs.means.fill.Tie as tie
 
@@ -15,7 +15,7 @@ abbrev decreases-loop : tie.decreases-loop
 decreases-loop histogram below₀ sums₀ number₀ sum₀ v₀ below sums number sum v = length histogram - v
 
 loop-holds : tie.Need-loop-init invariant-loop decreases-loop
-loop-holds c = first-turn (omega arith) (filling-none _ c.args.below.now c.args.sums.now c.requires.below-long c.requires.sums-long)
+loop-holds c = first_turn (omega arith) (filling_none _ c.args.below.now c.args.sums.now c.requires.below_long c.requires.sums_long)
 
 -- a turn: what it adds has room, and the tables are right a level further
 room : (count-read : tie.After-shared-slice-known invariant-loop decreases-loop) → let at-loop = count-read.before.before in let turn = at-loop.loop in
@@ -29,7 +29,7 @@ room count-read =
 loop-again : tie.Need-loop-preserved invariant-loop decreases-loop
 loop-again c =
     let turn = c.before.before.loop in
-    next-turn turn.invariant (omega arith) (filling-more turn.invariant.so_far c.before.loop-test.true)
+    next_turn turn.invariant (omega arith) (filling-more turn.invariant.so_far c.before.loop-test.true)
 
 pub fill_spec : {M : Type 1} → statement M
 fill_spec =

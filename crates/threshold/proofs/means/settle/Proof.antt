@@ -5,7 +5,7 @@ use Prim.Native.Nat.{ℕ, ◌*◌, ◌-◌, ◌<◌}
 use native.Mathlib.Omega.{arith}
 use lib.ListN.{length}
 use borrow.Author.Rules.{rules}
-use Rattle.arithmetic.proofs.Fractions.{they_differ, they-agree}
+use Rattle.arithmetic.proofs.Fractions.{they_differ, they_agree}
 use Rattle.threshold.specs.Histogram.{total}
 use Rattle.threshold.proofs.Settling.{Going, first-within, first-room, going-first, next-within, going_on, still-time, going-ends}
 use Rattle.threshold.proofs.means.settle.Statement.{statement}
@@ -64,8 +64,8 @@ module _ (in-turn : tie.Then1 invariant-loop decreases-loop) where
   moved : ¬ (at-loop.loop.t ≡ at-loop.loop.next)
   moved = they_differ at-loop.loop.t at-loop.loop.next (sym in-turn.before.differ.ensures ∙ in-turn.if1.taken)
 
-  in-time : at-loop.loop.rounds < 2 * length (h first) - 1
-  in-time =
+  in_time : at-loop.loop.rounds < 2 * length (h first) - 1
+  in_time =
       let turn = at-loop.loop in
       still-time (m first) (h first) (some first) turn.rounds turn.t turn.next turn.inv moved
 
@@ -89,13 +89,13 @@ returns c =
     let started = at-loop.before.before.before in
     let turn = at-loop.loop in
     going-ends (m started) (h started) (some started) turn.rounds turn.t turn.next turn.invariant
-    (they-agree turn.t turn.next (sym c.before.differ.ensures ∙ c.if1.false))
+    (they_agree turn.t turn.next (sym c.before.differ.ensures ∙ c.if1.false))
 
 pub settle-spec : {M : Type 1} → statement M
 settle-spec =
     tie.close
     (tie.spec invariant-loop decreases-loop (λ c κs. search rules) round-requires mul-t11 loop-holds (λ c κs. search rules)
     round-requires-2
-    (λ c. omega (arith, in-time c.before))
-    (λ c. omega (arith, in-time c.before))
+    (λ c. omega (arith, in_time c.before))
+    (λ c. omega (arith, in_time c.before))
     loop-again returns)
