@@ -49,9 +49,7 @@ neg_pos (suc n) = neg_diff n
 
 -- the difference of two natural numbers, as it is written
 pub pos_minus : (a b : ℕ) → pos a -ℤ pos b ≡ sub_ℕ a b
-pos_minus a b =
-    ap (λ (z : ℤ). pos a +ℤ z) (neg_pos b) ∙ ap (λ (z : ℤ). z +ℤ sub_ℕ 0 b) (pos_diff a) ∙ add_diff a 0 0 b
-    ∙ same_diff (a + 0) (0 + b) a b (omega arith)
+pos_minus a b = ap (λ (z : ℤ). pos a +ℤ z) (neg_pos b) ∙ ap (λ (z : ℤ). z +ℤ sub_ℕ 0 b) (pos_diff a) ∙ add_diff a 0 0 b ∙ same_diff (a + 0) (0 + b) a b (omega arith)
 
 -- sums and differences of natural numbers as they are written: −a + b
 pub less_plus : (a b : ℕ) → neg_ℤ (pos a) +ℤ pos b ≡ sub_ℕ b a
@@ -75,28 +73,22 @@ at_neg a x = same_diff a (a + suc x) 0 (suc x) (omega arith) ∙ sym (neg_diff x
 mul_pp : (b x d y : ℕ) → sub_ℕ (b + x) b *ℤ sub_ℕ (d + y) d ≡ sub_ℕ ((b + x) * (d + y) + b * d) ((b + x) * d + b * (d + y))
 mul_pp b x d y =
     rw (at_pos b x, at_pos d y)
-    (pos_diff (x * y) ∙ same_diff (x * y) 0 ((b + x) * (d + y) + b * d) ((b + x) * d + b * (d + y))
-    (omega (arith, add-mul b x (d + y), mul-add x d y, add-mul b x d)))
+    (pos_diff (x * y) ∙ same_diff (x * y) 0 ((b + x) * (d + y) + b * d) ((b + x) * d + b * (d + y)) (omega (arith, add-mul b x (d + y), mul-add x d y, add-mul b x d)))
 
 mul_pn : (b x c y : ℕ) → sub_ℕ (b + x) b *ℤ sub_ℕ c (c + suc y) ≡ sub_ℕ ((b + x) * c + b * (c + suc y)) ((b + x) * (c + suc y) + b * c)
 mul_pn b x c y =
     rw (at_pos b x, at_neg c y)
-    (neg_pos (x * suc y) ∙ same_diff 0 (x * suc y) ((b + x) * c + b * (c + suc y)) ((b + x) * (c + suc y) + b * c)
-    (omega (arith, add-mul b x c, add-mul b x (c + suc y), mul-add x c (suc y))))
+    (neg_pos (x * suc y) ∙ same_diff 0 (x * suc y) ((b + x) * c + b * (c + suc y)) ((b + x) * (c + suc y) + b * c) (omega (arith, add-mul b x c, add-mul b x (c + suc y), mul-add x c (suc y))))
 
 mul_np : (a x d y : ℕ) → sub_ℕ a (a + suc x) *ℤ sub_ℕ (d + y) d ≡ sub_ℕ (a * (d + y) + (a + suc x) * d) (a * d + (a + suc x) * (d + y))
 mul_np a x d y =
     rw (at_neg a x, at_pos d y)
-    (neg_pos (suc x * y) ∙ same_diff 0 (suc x * y) (a * (d + y) + (a + suc x) * d) (a * d + (a + suc x) * (d + y))
-    (omega (arith, add-mul a (suc x) d, add-mul a (suc x) (d + y), mul-add (suc x) d y)))
+    (neg_pos (suc x * y) ∙ same_diff 0 (suc x * y) (a * (d + y) + (a + suc x) * d) (a * d + (a + suc x) * (d + y)) (omega (arith, add-mul a (suc x) d, add-mul a (suc x) (d + y), mul-add (suc x) d y)))
 
-mul_nn : (a x c y : ℕ)
-    → sub_ℕ a (a + suc x) *ℤ sub_ℕ c (c + suc y) ≡ sub_ℕ (a * c + (a + suc x) * (c + suc y)) (a * (c + suc y) + (a + suc x) * c)
+mul_nn : (a x c y : ℕ) → sub_ℕ a (a + suc x) *ℤ sub_ℕ c (c + suc y) ≡ sub_ℕ (a * c + (a + suc x) * (c + suc y)) (a * (c + suc y) + (a + suc x) * c)
 mul_nn a x c y =
     rw (at_neg a x, at_neg c y)
-    (pos_diff (suc x * suc y)
-    ∙ same_diff (suc x * suc y) 0 (a * c + (a + suc x) * (c + suc y)) (a * (c + suc y) + (a + suc x) * c)
-    (omega (arith, add-mul a (suc x) c, add-mul a (suc x) (c + suc y), mul-add (suc x) c (suc y))))
+    (pos_diff (suc x * suc y) ∙ same_diff (suc x * suc y) 0 (a * c + (a + suc x) * (c + suc y)) (a * (c + suc y) + (a + suc x) * c) (omega (arith, add-mul a (suc x) c, add-mul a (suc x) (c + suc y), mul-add (suc x) c (suc y))))
 
 -- how two numbers stand to one another
 data Apart : ℕ → ℕ → Type 0 where
@@ -134,21 +126,14 @@ as_diff (negsuc n) = neg_diff n
 -- a difference times a sum of differences, and times a product, in ℕ
 distrib_diff : (a b c d e f : ℕ) → sub_ℕ a b *ℤ (sub_ℕ c d +ℤ sub_ℕ e f) ≡ sub_ℕ a b *ℤ sub_ℕ c d +ℤ sub_ℕ a b *ℤ sub_ℕ e f
 distrib_diff a b c d e f =
-    rw (
-      add_diff c d e f,
-      mul_diff a b (c + e) (d + f),
-      mul_diff a b c d,
-      mul_diff a b e f,
-      add_diff (a * c + b * d) (a * d + b * c) (a * e + b * f) (a * f + b * e),
-    )
+    rw (add_diff c d e f, mul_diff a b (c + e) (d + f), mul_diff a b c d, mul_diff a b e f, add_diff (a * c + b * d) (a * d + b * c) (a * e + b * f) (a * f + b * e))
     (same_diff (a * (c + e) + b * (d + f)) (a * (d + f) + b * (c + e)) (a * c + b * d + (a * e + b * f)) (a * d + b * c + (a * f + b * e))
     (omega (arith, mul-add a c e, mul-add b d f, mul-add a d f, mul-add b c e)))
 
 assoc_diff : (a b c d e f : ℕ) → sub_ℕ a b *ℤ sub_ℕ c d *ℤ sub_ℕ e f ≡ sub_ℕ a b *ℤ (sub_ℕ c d *ℤ sub_ℕ e f)
 assoc_diff a b c d e f =
     rw (mul_diff a b c d, mul_diff (a * c + b * d) (a * d + b * c) e f, mul_diff c d e f, mul_diff a b (c * e + d * f) (c * f + d * e))
-    (same_diff ((a * c + b * d) * e + (a * d + b * c) * f) ((a * c + b * d) * f + (a * d + b * c) * e)
-    (a * (c * e + d * f) + b * (c * f + d * e)) (a * (c * f + d * e) + b * (c * e + d * f))
+    (same_diff ((a * c + b * d) * e + (a * d + b * c) * f) ((a * c + b * d) * f + (a * d + b * c) * e) (a * (c * e + d * f) + b * (c * f + d * e)) (a * (c * f + d * e) + b * (c * e + d * f))
     (omega (
       arith,
       add-mul (a * c) (b * d) e,

@@ -9,8 +9,7 @@ use native.Mathlib.Decide.{ℕ_discrete}
 use native.Mathlib.Omega.{arith}
 use borrow.Author.Tests.{eq-eqb, ne_eqb}
 use Rattle.arithmetic.specs.declared.Fraction.{Fraction}
-use Rattle.arithmetic.specs.Fractions.{fraction, Proper, NotMore}
-use Rattle.arithmetic.specs.inside.Pairs.{unlike}
+use Rattle.arithmetic.specs.Fractions.{fraction, Proper, NotMore, unlike}
 use Rattle.arithmetic.proofs.Order.{le_or_lt}
 
 -- what is not more than T is not more than whatever T is not more than

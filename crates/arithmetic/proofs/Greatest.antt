@@ -5,8 +5,7 @@ use mathlib.Core.Logic.{⊎_elim}
 use Prim.Native.Nat.{ℕ, zero, suc, ◌+◌, ◌<◌, ◌≤◌, zero-le}
 use native.Mathlib.Nat.{le_antisymm, lt_of_not-le, eq-or-lt_of_le}
 use native.Mathlib.Omega.{arith}
-use Rattle.arithmetic.specs.Greatest.{Greatest, Least}
-use Rattle.arithmetic.specs.inside.Halving.{Between}
+use Rattle.arithmetic.specs.Greatest.{Greatest, Least, Between}
 
 -- any two greatest numbers are equal
 pub one_greatest : {P : ℕ → Type 0} {a b : ℕ} → Greatest P a → Greatest P b → a ≡ b

@@ -12,4 +12,3 @@ pub mod Casts
 pub mod Computed
 pub mod Fractions
 pub mod Outcomes
-pub mod Turns

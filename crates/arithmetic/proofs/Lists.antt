@@ -15,15 +15,13 @@ use Rattle.answers.proofs.Refusals.{alike}
 pub length_joined : (n w : ℕ) (f : ℕ → List ℕ) → ((k : ℕ) → k < n → length (f k) ≡ w) → length (joined n f) ≡ n * w
 unfolding joined
 length_joined zero w f p = sym (zero-mul w)
-length_joined (suc n) w f p =
-    simp (length-append, suc-mul) (omega (arith, length_joined n w f (λ k h. p k (omega arith)), p n (omega arith)))
+length_joined (suc n) w f p = simp (length-append, suc-mul) (omega (arith, length_joined n w f (λ k h. p k (omega arith)), p n (omega arith)))
 
 at_seam : (l m : List ℕ) (n i : ℕ) → length l ≡ n → get_or (l ++ m) (n + i) 0 ≡ get_or m i 0
 at_seam l m n i e = rw (← e) (get_or-append-add l m i 0)
 
 -- at place j·w + i of lists of w elements, joined, stands what stands at place i of list j
-pub joined_at : (n w : ℕ) (f : ℕ → List ℕ) → ((k : ℕ) → k < n → length (f k) ≡ w) → (j i : ℕ) → j < n → i < w
-    → get_or (joined n f) (j * w + i) 0 ≡ get_or (f j) i 0
+pub joined_at : (n w : ℕ) (f : ℕ → List ℕ) → ((k : ℕ) → k < n → length (f k) ≡ w) → (j i : ℕ) → j < n → i < w → get_or (joined n f) (j * w + i) 0 ≡ get_or (f j) i 0
 unfolding joined
 joined_at zero w f p j i g h = absurd (let z : ⊥ = omega arith in z)
 joined_at (suc n) w f p j i g h =

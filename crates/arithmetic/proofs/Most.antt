@@ -18,19 +18,16 @@ use Rattle.answers.proofs.Refusals.{stops, goes_on}
 
 -- `most` is the greatest of the first i values
 pub record Most (values : List ℕ) (most i : ℕ) : Type 0 where
-  pub within : i ≤ length values
   pub up_to : (k : ℕ) → k < i → get_or values k 0 ≤ most
   pub no_more : (b : ℕ) → AtMost b values → most ≤ b
 
 -- of none it is 0
 pub most_none : (values : List ℕ) → Most values 0 0
-most_none values = record { within = zero-le; up_to = λ k h. absurd (let z : ⊥ = omega arith in z); no_more = λ b p. zero-le }
+most_none values = record { up_to = λ k h. absurd (let z : ⊥ = omega arith in z); no_more = λ b p. zero-le }
 
 -- one value more, x
-pub most_more : {values : List ℕ} {most i : ℕ} (x : ℕ) → i < length values → x ≡ get_or values i 0 → Most values most i
-    → Most values (max most x) (i + 1)
-most_more {values} {most} {i} x more is so_far =
-    record { within = omega arith; up_to = up_to; no_more = λ b p. max-le (so_far.no_more b p) (omega (arith, p i)) }
+pub most_more : (values : List ℕ) (most i x : ℕ) → x ≡ get_or values i 0 → Most values most i → Most values (max most x) (i + 1)
+most_more values most i x is so_far = record { up_to = up_to; no_more = λ b p. max-le (so_far.no_more b p) (omega (arith, p i)) }
   where
     up_to : (k : ℕ) → k < i + 1 → get_or values k 0 ≤ max most x
     up_to k h = elim (dec_lt k i) [
@@ -39,8 +36,8 @@ most_more {values} {most} {i} x more is so_far =
     ]
 
 -- all values
-pub most_all : {values : List ℕ} {most i : ℕ} → length values ≤ i → Most values most i → Least (λ b. AtMost b values) most
-most_all {values} {most} {i} all so_far = record { holds = holds; least = so_far.no_more }
+pub most_all : (values : List ℕ) (most i : ℕ) → length values ≤ i → Most values most i → Least (λ b. AtMost b values) most
+most_all values most i all so_far = record { holds = holds; least = so_far.no_more }
   where
     holds : AtMost most values
     holds k = elim (dec_lt k i) [

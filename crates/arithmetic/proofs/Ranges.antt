@@ -66,8 +66,7 @@ of_product x z r =
     let mp = mul-le-mul_left (minus x) r.high in
     let mm = mul-le-mul_left (minus x) r.low in
     subst (Ranges _ _) (sym (both_diffs ◌*ℤ◌ x z ∙ mul_diff (plus x) (minus x) (plus z) (minus z)))
-    (widened (omega (arith, pm, mp)) (omega (arith, pp, mm))
-    (of_diff (plus x * plus z + minus x * minus z) (plus x * minus z + minus x * plus z)))
+    (widened (omega (arith, pm, mp)) (omega (arith, pp, mm)) (of_diff (plus x * plus z + minus x * minus z) (plus x * minus z + minus x * plus z)))
 
 -- of n numbers, added up
 pub of_sums : (n : ℕ) (f g : ℕ → ℕ) (z : ℕ → ℤ) → ((i : ℕ) → i < n → Ranges (f i) (g i) (z i)) → Ranges (sum n f) (sum n g) (sumℤ n z)
@@ -81,6 +80,5 @@ in_width w (pos n) r p q = record { sfits = omega (arith, r.high) }
 in_width w (negsuc n) r p q = record { sfits = omega (arith, r.low) }
 
 -- and so has a sum with one number more
-pub next_in_width : (w : Width) {a b : ℕ} (z : ℕ → ℤ) (n : ℕ) → Ranges a b (sumℤ (n + 1) z) → a < 2 ^ hbits w → b < 2 ^ hbits w
-    → SFits w (sumℤ n z +ℤ z n)
+pub next_in_width : (w : Width) {a b : ℕ} (z : ℕ → ℤ) (n : ℕ) → Ranges a b (sumℤ (n + 1) z) → a < 2 ^ hbits w → b < 2 ^ hbits w → SFits w (sumℤ n z +ℤ z n)
 next_in_width w z n r p q = rw (← sumℤ_more n z) (in_width w (sumℤ (n + 1) z) r p q)

@@ -62,8 +62,7 @@ module _ (n : ℕ) (p : ℕ → Bool) where
   pub over-minus : (f g : ℕ → ℕ) → sum_overℤ n p (λ i. pos (f i) -ℤ pos (g i)) ≡ pos (sum_over n p f) -ℤ pos (sum_over n p g)
   unfolding sum_over sum_overℤ
   over-minus f g =
-      sum_diff n (λ i. cond (p i) (pos (f i) -ℤ pos (g i)) (pos 0)) (λ i. cond (p i) (f i) 0) (λ i. cond (p i) (g i) 0)
-      (λ i. picked (p i) i)
+      sum_diff n (λ i. cond (p i) (pos (f i) -ℤ pos (g i)) (pos 0)) (λ i. cond (p i) (f i) 0) (λ i. cond (p i) (g i) 0) (λ i. picked (p i) i)
       ∙ sym (pos_minus (sum_over n p f) (sum_over n p g))
     where
       picked : (b : Bool) (i : ℕ) → cond b (pos (f i) -ℤ pos (g i)) (pos 0) ≡ sub_ℕ (cond b (f i) 0) (cond b (g i) 0)

@@ -89,5 +89,4 @@ overwritten_front before f l i x room is so_far = rw (zero-add i) at (overwritte
 pub overwritten_all : (before : List ℕ) (at : ℕ) (m l : List ℕ) (i : ℕ) → i ≡ length m → Overwritten before at (λ k. get_or m k 0) l i
     → l ≡ over before at m
 overwritten_all before at m l i all so_far =
-    so_far.is ∙ ap (over before at)
-    (ap (λ (n : ℕ). listed n (λ k. get_or m k 0)) all ∙ listed_take m (length m) (omega arith) ∙ take-length m)
+    so_far.is ∙ ap (over before at) (ap (λ (n : ℕ). listed n (λ k. get_or m k 0)) all ∙ listed_take m (length m) (omega arith) ∙ take-length m)

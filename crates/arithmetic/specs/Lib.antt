@@ -4,4 +4,3 @@ pub mod Signed
 pub mod Lists
 pub mod Sums
 pub mod Fractions
-pub mod inside

@@ -14,7 +14,7 @@ use Rattle.memory.proofs.Memories.{length_rows, rows_of_memory, length_memory, l
 use Rattle.scan.specs.Ring.{held_in, later}
 use Rattle.scan.specs.Held.{after}
 use Rattle.scan.specs.Scan.{Scanned, scanned, at_front, due, rows_given, rows_held, RowsIs, end_given, EndIs}
-use Rattle.scan.specs.inside.Asked.{Ready}
+use Rattle.scan.specs.Asked.{Ready}
 use Rattle.scan.proofs.Calls.{Fitting, so_far, length-later, is-ready, rows_fit, rows-due, end-long}
 
 -- ---- a start
@@ -56,7 +56,7 @@ module _ (held levels output : List ℕ) (r : Scanned) where
     pub within : length levels / width_of held ≤ height_of held - came_of held
     pub count : r.rows ≡ due (came_of held) (length levels / width_of held)
     pub held-is : r.held ≡ rows_held held levels
-    pub output_is : r.output ≡ at_front (rows_given held levels) output
+    pub output-is : r.output ≡ at_front (rows_given held levels) output
 
   pub rows-done : r.number ≡ 0 → RowsIs held levels output r → Came
   rows-done z (inl a) = absurd (not_done 1 (λ e. omega (arith, e)) z a.1)
@@ -69,7 +69,7 @@ module _ (held levels output : List ℕ) (r : Scanned) where
     within = d;
     count = ap (λ (s : Scanned). s.rows) is;
     held-is = ap (λ (s : Scanned). s.held) is;
-    output_is = ap (λ (s : Scanned). s.output) is;
+    output-is = ap (λ (s : Scanned). s.output) is;
   }
 
 -- ---- the end
@@ -85,7 +85,7 @@ module _ (held output : List ℕ) (r : Scanned) where
     pub last : came_of held ≡ height_of held
     pub count : r.rows ≡ min 3 (height_of held)
     pub held-is : r.held ≡ memory (width_of held) (height_of held) (height_of held + 3) (zeros 6144) (drop 6147 held)
-    pub output_is : r.output ≡ at_front (end_given held) output
+    pub output-is : r.output ≡ at_front (end_given held) output
 
   pub end-done : r.number ≡ 0 → EndIs held output r → Finished
   end-done z (inl a) = absurd (not_done 1 (λ e. omega (arith, e)) z a.1)
@@ -96,7 +96,7 @@ module _ (held output : List ℕ) (r : Scanned) where
     last = c;
     count = ap (λ (s : Scanned). s.rows) is;
     held-is = ap (λ (s : Scanned). s.held) is;
-    output_is = ap (λ (s : Scanned). s.output) is;
+    output-is = ap (λ (s : Scanned). s.output) is;
   }
 
 -- ---- the memory that is left
@@ -179,7 +179,7 @@ module _ (held levels output : List ℕ) (r : Scanned) (few : came_of held ≤ 6
 
   pub gave : take (r.rows * w) r.output ≡ rows_given held levels
   gave =
-      ap (take (r.rows * w)) came.output_is
+      ap (take (r.rows * w)) came.output-is
       ∙ take_at (rows_given held levels) (drop (length (rows_given held levels)) output) (r.rows * w)
       (given-long ∙ ap (λ (z : ℕ). z * w) (sym came.count))
 
@@ -187,6 +187,6 @@ module _ (held levels output : List ℕ) (r : Scanned) (few : came_of held ≤ 6
 pub end_gave : (held output : List ℕ) (r : Scanned) → (f : Finished held output r)
     → take (r.rows * width_of held) r.output ≡ end_given held
 end_gave held output r f =
-    ap (take (r.rows * width_of held)) f.output_is
+    ap (take (r.rows * width_of held)) f.output-is
     ∙ take_at (end_given held) (drop (length (end_given held)) output) (r.rows * width_of held)
     (end-long held f.begun f.last ∙ ap (λ (z : ℕ). z * width_of held) (sym f.count))

@@ -1,81 +1,78 @@
 // What goes to standard output, by way of a block: text is put into the block, and the block is
 // written when it is nearly full and at the end of an answer. What the digits are is promised by the
 // crate `text`; here is when they are written.
-ghost use Rattle.std.specs.Prelude.{◌+◌, ◌≤◌, ◌<◌, length};
+ghost use Rattle.std.specs.Prelude.{◌≡◌, ◌+◌, ◌≤◌, ◌<◌, length};
 
-use crate::request::Taken;
-use crate::{Block, Turn};
+use crate::{ANSWERED, FAILED};
 use libc::STDOUT_FILENO;
 
-// How the turn has gone so far, and where the text in the block ends. Once it went wrong nothing more is
-// written, whatever is put.
+// Where the text in the block ends, or that standard output failed on the way.
 #[derive(Drop)]
-pub struct Text {
-    pub how: Turn,
+pub struct Ended {
+    pub failed: bool,
     pub at: usize,
 }
 
-// Writes the first n bytes of a text. Where that fails, it is said.
-fn write(so_far: Turn, text: &[u8], n: usize) -> Turn
-    requires { n ≤ length text.now }
+// The text ends at `at`, and all went well.
+fn so_far(at: usize) -> Ended
+    ensures { result.at ≡ at }
 {
-    match so_far {
-        Turn::Well => {}
-        wrong => return wrong,
-    }
-    if io::write_all(STDOUT_FILENO, &text[..n]) {
-        return Turn::Well;
-    }
-    os::fail(b"standard output");
-    Turn::Failed
+    Ended { failed: false, at }
 }
 
-// Writes the text in the block, the last of an answer; how the turn ended.
-pub(crate) fn send(block: &Block, text: Text) -> Turn
-    requires { text.at ≤ 65_536 }
+// Writes some text; whether standard output took it. Where not, that has been said.
+fn write(text: &[u8]) -> bool {
+    if io::write_all(STDOUT_FILENO, text) {
+        return true;
+    }
+    os::fail(b"standard output");
+    false
+}
+
+// Writes the text in the block, the last of an answer; how the request ended.
+pub(crate) fn send(block: &[u8], text: Ended) -> u8
+    requires { text.at ≤ length block.now }
 {
-    let how = text.how;
-    write(how, block, text.at)
+    if text.failed {
+        return FAILED;
+    }
+    if write(&block[..text.at]) {
+        return ANSWERED;
+    }
+    FAILED
 }
 
 // Where 32 bytes more have room: a number, its sign and what stands after it are fewer.
-fn room(block: &Block, text: Text) -> Text
-    requires { text.at ≤ 65_536 }
-    ensures { result.at + 32 ≤ 65_536 }
+fn room(block: &[u8], at: usize) -> Ended
+    requires { (32 ≤ length block.now) × (at ≤ length block.now) }
+    ensures { result.at + 32 ≤ length block.now }
 {
-    if text.at <= 65_504 {
-        return text;
+    if at <= block.len() - 32 {
+        return so_far(at);
     }
-    Text {
-        how: send(block, text),
+    Ended {
+        failed: !write(&block[..at]),
         at: 0,
     }
 }
 
-// A number, and the byte `after` behind it.
-pub(crate) fn put(block: &mut Block, text: Text, n: u64, after: u8) -> Text
-    requires { text.at ≤ 65_536 }
-    ensures { result.at ≤ 65_536 }
+// A store of its own, so that callers need only that the block keeps its length.
+fn store(block: &mut [u8], at: usize, b: u8)
+    requires { at < length block.old }
 {
-    let start = room(block, text);
-    let how = start.how;
-    Text {
-        how,
-        at: text::number(block, start.at, n, after),
-    }
+    block[at] = b;
 }
 
-// A signed one.
-pub(crate) fn put_signed(block: &mut Block, text: Text, v: i64, after: u8) -> Text
-    requires { text.at ≤ 65_536 }
-    ensures { result.at ≤ 65_536 }
+// A number, and the byte `after` behind it.
+fn put(block: &mut [u8], at: usize, n: u64, after: u8) -> Ended
+    requires { (32 ≤ length block.old) × (at ≤ length block.old) }
+    ensures { result.at ≤ length block.old }
 {
-    let start = room(block, text);
-    let how = start.how;
-    Text {
-        how,
-        at: text::signed(block, start.at, v, after),
+    let start = room(block, at);
+    if start.failed {
+        return start;
     }
+    so_far(text::number(block, start.at, n, after))
 }
 
 // What stands after element i of n: a space, or the end of the line.
@@ -85,63 +82,120 @@ fn after(i: usize, n: usize) -> u8
     if i + 1 < n { b' ' } else { b'\n' }
 }
 
-// The end of a line of n elements, where no element has it.
-fn end(block: &mut Block, text: Text, n: usize) -> Text
-    requires { text.at ≤ 65_536 }
-    ensures { result.at ≤ 65_536 }
+// A letter and numbers after it, as a line at the block's start.
+pub(crate) fn line(block: &mut [u8], letter: u8, numbers: &[u64]) -> Ended
+    requires { 32 ≤ length block.old }
+    ensures { result.at ≤ length block.old }
 {
-    if 0 < n {
-        return text;
+    store(block, 0, letter);
+    store(block, 1, b' ');
+    let mut at = 2;
+    let mut i = 0;
+    while i < numbers.len() {
+        let text = put(block, at, numbers[i], after(i, numbers.len()));
+        if text.failed {
+            return text;
+        }
+        at = text.at;
+        i += 1;
     }
-    let start = room(block, text);
-    let how = start.how;
-    let at = start.at;
-    block[at] = b'\n';
-    Text { how, at: at + 1 }
+    so_far(at)
+}
+
+// A letter, a number and a signed number, as a line at the block's start.
+pub(crate) fn signed_line(block: &mut [u8], letter: u8, number: u64, v: i64) -> Ended
+    requires { 32 ≤ length block.old }
+    ensures { result.at ≤ length block.old }
+{
+    store(block, 0, letter);
+    store(block, 1, b' ');
+    let first = put(block, 2, number, b' ');
+    if first.failed {
+        return first;
+    }
+    let start = room(block, first.at);
+    if start.failed {
+        return start;
+    }
+    so_far(text::signed(block, start.at, v, b'\n'))
+}
+
+// The end of a line of no elements.
+fn end(block: &mut [u8], at: usize) -> Ended
+    requires { (32 ≤ length block.old) × (at ≤ length block.old) }
+    ensures { result.at ≤ length block.old }
+{
+    let start = room(block, at);
+    if start.failed {
+        return start;
+    }
+    store(block, start.at, b'\n');
+    so_far(start.at + 1)
+}
+
+// A function of its own, so that the loop below has no cast for its proof to follow.
+fn value_as_number(value: u16) -> u64 {
+    value as u64
 }
 
 // The elements of a buffer of values, as a line behind the text that the block has.
-pub(crate) fn values(block: &mut Block, text: Text, s: &[u16]) -> Text
-    requires { text.at ≤ 65_536 }
-    ensures { result.at ≤ 65_536 }
+pub(crate) fn values(block: &mut [u8], text: Ended, s: &[u16]) -> Ended
+    requires { (32 ≤ length block.old) × (text.at ≤ length block.old) }
+    ensures { result.at ≤ length block.old }
 {
-    let mut done = text;
+    if text.failed {
+        return text;
+    }
+    if s.len() == 0 {
+        return end(block, text.at);
+    }
+    let mut at = text.at;
     let mut i = 0;
     while i < s.len() {
-        done = put(block, done, s[i] as u64, after(i, s.len()));
+        let more = put(block, at, value_as_number(s[i]), after(i, s.len()));
+        if more.failed {
+            return more;
+        }
+        at = more.at;
         i += 1;
     }
-    end(block, done, s.len())
+    so_far(at)
 }
 
-// The elements of a buffer of counts.
-pub(crate) fn counts(block: &mut Block, text: Text, s: &[u32]) -> Text
-    requires { text.at ≤ 65_536 }
-    ensures { result.at ≤ 65_536 }
+// The same of a count.
+fn count_as_number(count: u32) -> u64 {
+    count as u64
+}
+
+// The elements of a buffer of counts, likewise.
+pub(crate) fn counts(block: &mut [u8], text: Ended, s: &[u32]) -> Ended
+    requires { (32 ≤ length block.old) × (text.at ≤ length block.old) }
+    ensures { result.at ≤ length block.old }
 {
-    let mut done = text;
+    if text.failed {
+        return text;
+    }
+    if s.len() == 0 {
+        return end(block, text.at);
+    }
+    let mut at = text.at;
     let mut i = 0;
     while i < s.len() {
-        done = put(block, done, s[i] as u64, after(i, s.len()));
+        let more = put(block, at, count_as_number(s[i]), after(i, s.len()));
+        if more.failed {
+            return more;
+        }
+        at = more.at;
         i += 1;
     }
-    end(block, done, s.len())
-}
-
-// The beginning of an answer, at the block's start: the letter, and the call's number.
-pub(crate) fn line(read: Taken, block: &mut Block, letter: u8, number: u8, after: u8) -> Text
-    ensures { result.at ≤ 65_536 }
-{
-    block[0] = letter;
-    block[1] = b' ';
-    let how = read.how;
-    put(block, Text { how, at: 2 }, number as u64, after)
+    so_far(at)
 }
 
 // The run's last line: some words and a number.
-pub(crate) fn last(block: &mut Block, words: &[u8], n: u64) {
-    let how = write(Turn::Well, words, words.len());
-    let text = put(block, Text { how, at: 0 }, n, b'\n');
-    // nothing is written after it, so whether it was written changes nothing more
-    send(block, text);
+pub(crate) fn last(block: &mut [u8], words: &[u8], n: u64) {
+    if write(words) {
+        let end = text::number(block, 0, n, b'\n');
+        // nothing is written after it, so whether it was written changes nothing more
+        write(&block[..end]);
+    }
 }

@@ -12,7 +12,6 @@ ghost use Rattle.sample.specs.Cubic.{SampleIs};
 ghost use Rattle.length.specs.Length.{LengthIs};
 ghost use Rattle.calls.specs.Space.{argument};
 
-use crate::Block;
 use crate::wire::{number, signed};
 use judge::Verdict;
 use length::Sharpness;
@@ -20,7 +19,7 @@ use sample::Sampled;
 use units::{Eighths, Picometres};
 
 // `f`: width, height.
-pub(crate) fn filter(levels: &[u8], b: &Block, output: &mut [u16], work: &mut [u16]) -> u8
+pub(crate) fn filter(levels: &[u8], b: &[u8; 16], output: &mut [u16], work: &mut [u16]) -> u8
     ensures { FilterIs levels.now (argument b.now 0) (argument b.now 1)
         output.old work.old (outcome result output.new work.new) }
 {
@@ -34,14 +33,14 @@ pub(crate) fn filter(levels: &[u8], b: &Block, output: &mut [u16], work: &mut [u
 }
 
 // `b`: width, height.
-pub(crate) fn start(held: &mut [u16], b: &Block) -> u8
+pub(crate) fn start(held: &mut [u16], b: &[u8; 16]) -> u8
     ensures { StartIs held.old (argument b.now 0) (argument b.now 1) result held.new }
 {
     memory::start(held, number(b, 0) as usize, number(b, 1) as usize)
 }
 
 // `m`: width, height.
-pub(crate) fn measure(levels: &[u8], b: &Block, output: &mut [u16], work: &mut [u16]) -> Verdict
+pub(crate) fn measure(levels: &[u8], b: &[u8; 16], output: &mut [u16], work: &mut [u16]) -> Verdict
     ensures { MeasureIs levels.now (argument b.now 0) (argument b.now 1)
         output.old work.old (measurement result output.new work.new) }
 {
@@ -55,7 +54,7 @@ pub(crate) fn measure(levels: &[u8], b: &Block, output: &mut [u16], work: &mut [
 }
 
 // `j`: count, bright, dark, spread.
-pub(crate) fn judge(b: &Block) -> Verdict
+pub(crate) fn judge(b: &[u8; 32]) -> Verdict
     ensures { JudgeIs (argument b.now 0) (eighths (argument b.now 1))
         (eighths (argument b.now 2)) (argument b.now 3) result }
 {
@@ -65,7 +64,7 @@ pub(crate) fn judge(b: &Block) -> Verdict
 }
 
 // `s`: width, height, x, y.
-pub(crate) fn sample(levels: &[u8], b: &Block) -> Sampled
+pub(crate) fn sample(levels: &[u8], b: &[u8; 32]) -> Sampled
     ensures { SampleIs levels.now (argument b.now 0) (argument b.now 1)
         (sixteenths (to_z w64 (argument b.now 2))) (sixteenths (to_z w64 (argument b.now 3))) result }
 {
@@ -79,7 +78,7 @@ pub(crate) fn sample(levels: &[u8], b: &Block) -> Sampled
 }
 
 // `l`: factor, pixel.
-pub(crate) fn length(b: &Block) -> Sharpness
+pub(crate) fn length(b: &[u8; 16]) -> Sharpness
     ensures { LengthIs (sixteenths (to_z w64 (argument b.now 0))) (picometres (argument b.now 1)) result }
 {
     length::length(signed(b, 0), Picometres::of(number(b, 1)))

@@ -8,96 +8,146 @@ mod each;
 mod request;
 mod wire;
 
-// How a turn has gone so far: well, and at its end its request has been answered; the input ended
-// before it; its request was cut short, named no call or was too long; standard input or output
-// failed, and that has been said.
-#[derive(Drop)]
-pub enum Turn {
-    Well,
-    NoMore,
-    Bad,
-    Failed,
-}
+ghost use Rattle.std.specs.Prelude.{◌≡◌, ◌≤◌, min, length};
+ghost use Rattle.calls.specs.Space.{OfLength};
 
-// The spaces: the block that text goes through, and what a slice's bytes come into, two to a value. The
-// longest slices and buffers that a request can name have one element more than any picture, so that one
-// too many can be shown, and 4,096 counts. The memory of the one scan that the program keeps is all zeros
-// "before a good start".
-type Block = [u8; 65_536];
+use request::Next;
 
-type Bytes = [u8; 2_097_154];
+// How a request ended: it was whole and has been answered; the input ended before it; it was cut
+// short, named no call or was too long; standard input or output failed, and that has been said.
+const ANSWERED: u8 = 0;
 
-type Values = [u16; 1_048_577];
+const NO_MORE: u8 = 1;
 
-type Counts = [u32; 4_096];
+const BAD: u8 = 2;
 
-type Scan = [u16; 6_147];
+const FAILED: u8 = 3;
 
-// The next request by its letter, and how it ended. Each call reads its own arguments, into the spaces
-// that it needs, and writes its answer by way of the block.
-fn next(
-    block: &mut Block,
-    bytes: &mut Bytes,
-    one: &mut Values,
-    two: &mut Values,
-    counts: &mut Counts,
-    held: &mut Scan,
-) -> Turn {
-    match request::exactly(Turn::Well, block, 1) {
-        Turn::Well => {}
-        // the input ended, and no request is cut by it
-        Turn::Bad => return Turn::NoMore,
-        how => return how,
-    }
-    match block[0] {
-        b'f' => each::filter(block, bytes, one, two),
-        b'm' => each::measure(block, bytes, one, two),
+// A request by its letter, and how it ended. Each call reads its own arguments, into the spaces that
+// it needs, and writes its answer by way of the block.
+fn call(
+    letter: u8,
+    block: &mut [u8],
+    levels: &mut [u8],
+    one: &mut [u16],
+    two: &mut [u16],
+    counts: &mut [u32],
+    held: &mut [u16],
+) -> u8
+    requires { 32 ≤ length block.old }
+{
+    match letter {
+        b'f' => each::picture(letter, block, levels, one, two),
+        b'm' => each::picture(letter, block, levels, one, two),
         b'b' => each::start(block, held),
-        b'r' => each::rows(block, bytes, one, held),
-        b'z' => each::end(block, one, held),
+        b'r' => each::rows(block, held, levels, one),
+        b'z' => each::end(block, held, one),
         b'j' => each::judge(block),
-        b'c' => each::count(block, bytes, one, counts),
-        b't' => each::two_means(block, bytes, counts),
-        b's' => each::sample(block, bytes),
+        b'c' => each::count(block, one, counts),
+        b't' => each::two_means(block, counts),
+        b's' => each::sample(block, levels),
         b'l' => each::length(block),
-        _ => Turn::Bad,
+        _ => BAD,
     }
 }
 
-// Requests, one after the other, and the run's last line; there is none where standard input or output
-// failed. Nothing says that the input ends, so the count of answers is what ends the loop, at a number
-// that no run reaches.
+// The next request, and how it ended.
+fn turn(
+    block: &mut [u8],
+    levels: &mut [u8],
+    one: &mut [u16],
+    two: &mut [u16],
+    counts: &mut [u32],
+    held: &mut [u16],
+) -> u8
+    requires { 32 ≤ length block.old }
+{
+    match request::beginning() {
+        Next::Letter(letter) => call(letter, block, levels, one, two, counts, held),
+        Next::Nothing(how) => how,
+    }
+}
+
+// The run's last line. There is none where standard input or output failed.
+fn finish(block: &mut [u8], how: u8, answered: u64) {
+    if how == NO_MORE {
+        answer::last(block, b"answered ", answered);
+        return;
+    }
+    if how == BAD {
+        answer::last(block, b"bad request ", answered);
+    }
+}
+
+// Requests, one after the other. Nothing says that the input ends, so the count of them is what
+// ends the loop, at a number that no run reaches.
 fn serve(
-    block: &mut Block,
-    bytes: &mut Bytes,
-    one: &mut Values,
-    two: &mut Values,
-    counts: &mut Counts,
-    held: &mut Scan,
-) {
+    block: &mut [u8],
+    levels: &mut [u8],
+    one: &mut [u16],
+    two: &mut [u16],
+    counts: &mut [u32],
+    held: &mut [u16],
+)
+    requires { 32 ≤ length block.old }
+{
     let mut answered: u64 = 0;
     while answered < 18_446_744_073_709_551_615 {
-        match next(block, bytes, one, two, counts, held) {
-            Turn::Well => answered += 1,
-            Turn::NoMore => return answer::last(block, b"answered ", answered),
-            Turn::Bad => return answer::last(block, b"bad request ", answered),
-            Turn::Failed => return,
+        let how = turn(block, levels, one, two, counts, held);
+        if how != ANSWERED {
+            finish(block, how, answered);
+            return;
         }
+        answered += 1;
     }
 }
 
-// The spaces are made once and lent, so that no request pays for clearing them: 6 MiB of the 8 that
+// The smaller of two: what still has room, and what there is.
+fn smaller(a: usize, b: usize) -> usize
+    ensures { result ≡ min a b }
+{
+    if a < b { a } else { b }
+}
+
+// The longest slices and buffers that a request can name: one element more than any picture has, so
+// that one too many can be shown, and 4,096 counts. Each is made by a function, which promises its length.
+fn level_space() -> [u8; 1_048_577]
+    ensures { OfLength 1_048_577 result }
+{
+    [0; 1_048_577]
+}
+
+fn value_space() -> [u16; 1_048_577]
+    ensures { OfLength 1_048_577 result }
+{
+    [0; 1_048_577]
+}
+
+fn count_space() -> [u32; 4_096]
+    ensures { 4_096 ≡ length result }
+{
+    [0; 4_096]
+}
+
+// The memory of the one scan that the program keeps: all zeros is "before a good start".
+fn scan_space() -> [u16; 6_147]
+    ensures { OfLength 6_147 result }
+{
+    [0; 6_147]
+}
+
+// The spaces are made once and lent, so that no request pays for clearing them: 5 MiB of the 8 that
 // a stack has.
 fn main() {
-    let mut block = [0; 65_536];
-    let mut bytes = [0; 2_097_154];
-    let mut one = [0; 1_048_577];
-    let mut two = [0; 1_048_577];
-    let mut counts = [0; 4_096];
-    let mut held = [0; 6_147];
+    let mut block = io::large_buffer();
+    let mut levels = level_space();
+    let mut one = value_space();
+    let mut two = value_space();
+    let mut counts = count_space();
+    let mut held = scan_space();
     serve(
         &mut block,
-        &mut bytes,
+        &mut levels,
         &mut one,
         &mut two,
         &mut counts,

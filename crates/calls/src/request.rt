@@ -1,202 +1,260 @@
 // What comes from standard input: the bytes of numbers, read-only slices, buffers. What the input is
-// too short for is bad, and so is a slice or a buffer that is longer than the space for it. Each function
-// takes how the request has gone so far and reads nothing once it went wrong, so that a call reads all of
-// its arguments in a row and never looks.
+// too short for is bad, and so is a slice or a buffer that is longer than the space for it.
 ghost use Rattle.std.specs.Prelude.{◌≡◌, ◌+◌, ◌*◌, ◌≤◌, length};
 ghost use Rattle.io.specs.Counts.{IsPrefixLen};
 ghost use Rattle.arithmetic.specs.Bytes.{two_bytes, four_bytes};
 ghost use Rattle.arithmetic.specs.Lists.{listed, over};
-ghost use Rattle.calls.specs.Space.{Takes, UpTo};
-ghost use Rattle.calls.specs.inside.Reading.{Sliced, Elements, Lent};
+ghost use Rattle.answers.specs.Refusals.{Unless};
+ghost use Rattle.calls.specs.Space.{All, None, LentIs};
 
-use crate::{Block, Turn, wire};
+use crate::{ANSWERED, BAD, FAILED, NO_MORE, smaller, wire};
+use arithmetic::bytes;
 
-// How a request has gone so far; and the first `count` places of a space hold the slice or the buffer
-// that it named last.
+// What a request begins with: the letter of a call; or nothing, and how the run ends.
+#[derive(Drop)]
+pub enum Next {
+    Letter(u8),
+    Nothing(u8),
+}
+
+// The first `count` places of a space hold what a request named; none where it was not whole.
 #[derive(Drop)]
 pub struct Taken {
-    pub how: Turn,
+    pub how: u8,
     pub count: usize,
 }
 
-// Nothing is taken, and how it has gone.
-fn nothing(how: Turn) -> Taken
-    ensures { Takes how 0 result }
+// The beginning of the next request.
+pub(crate) fn beginning() -> Next {
+    let mut b = [0u8; 1];
+    let got = streams::read(&mut b);
+    if got.failed {
+        return Next::Nothing(FAILED);
+    }
+    if got.count < 1 {
+        return Next::Nothing(NO_MORE);
+    }
+    Next::Letter(b[0])
+}
+
+// Fills a space from the input; how that went.
+pub(crate) fn fill(space: &mut [u8]) -> u8 {
+    let got = streams::read(space);
+    if got.failed {
+        return FAILED;
+    }
+    if got.count < space.len() {
+        return BAD;
+    }
+    ANSWERED
+}
+
+// Nothing is taken, and why.
+fn nothing(how: u8) -> Taken
+    ensures { None how result }
 {
     Taken { how, count: 0 }
 }
 
-// Nothing has been read yet but the letter.
-pub(crate) fn begun() -> Taken {
-    nothing(Turn::Well)
-}
-
-// Fills a space from the input.
-fn fill(so_far: Turn, space: &mut [u8]) -> Turn {
-    match so_far {
-        Turn::Well => {}
-        wrong => return wrong,
-    }
-    let got = streams::read(space);
-    if got.failed {
-        return Turn::Failed;
-    }
-    if got.count < space.len() {
-        return Turn::Bad;
-    }
-    Turn::Well
-}
-
-// Fills the first n places of one.
-pub(crate) fn exactly(so_far: Turn, space: &mut [u8], n: usize) -> Turn
-    requires { n ≤ length space.old }
-{
-    fill(so_far, &mut space[..n])
-}
-
-// The bytes of n numbers, to the start of the block.
-pub(crate) fn numbers(so_far: Taken, block: &mut Block, n: usize) -> Taken
-    requires { 8 * n ≤ 65_536 }
-{
-    let how = so_far.how;
-    nothing(exactly(how, block, 8 * n))
-}
-
 // A length as it was read, against a space of `most`: taken up to that very number, and no more.
 fn up_to(n: u64, most: usize) -> Taken
-    ensures { UpTo n most result }
+    ensures { Unless (n ≤ most) (None 2 result) (All n result) }
 {
     if (most as u64) < n {
-        return nothing(Turn::Bad);
+        return nothing(BAD);
     }
     Taken {
-        how: Turn::Well,
+        how: ANSWERED,
         count: n as usize,
     }
 }
 
 // A length that a space of `most` has room for.
-fn size(so_far: Taken, most: usize) -> Taken
+fn size(most: usize) -> Taken
     ensures { result.count ≤ most }
 {
     let mut b = [0u8; 8];
-    let how = so_far.how;
-    match fill(how, &mut b) {
-        Turn::Well => up_to(wire::number(&b, 0), most),
-        wrong => nothing(wrong),
+    let how = fill(&mut b);
+    if how != ANSWERED {
+        return nothing(how);
     }
+    up_to(bytes::number(b), most)
 }
 
-// The length of a read-only slice of at most `most` elements, and its bytes: `wide` for each.
-fn slice(so_far: Taken, bytes: &mut [u8], wide: usize, most: usize) -> Taken
-    requires { wide * most ≤ length bytes.old }
-    ensures { Sliced wide most bytes.old result }
+// Fills the first n places of a space from the input; how that went.
+fn exactly(space: &mut [u8], n: usize) -> u8
+    requires { n ≤ length space.old }
 {
-    let t = size(so_far, most);
-    let n = t.count;
-    let how = t.how;
-    Taken {
-        how: exactly(how, bytes, wide * n),
-        count: n,
-    }
+    fill(&mut space[..n])
 }
 
 // A read-only slice of levels: a byte each.
-pub(crate) fn levels(so_far: Taken, bytes: &mut [u8]) -> Taken
-    requires { 1_048_577 ≤ length bytes.old }
-    ensures { IsPrefixLen result.count bytes.new }
+pub(crate) fn levels(space: &mut [u8]) -> Taken
+    ensures { IsPrefixLen result.count space.new }
 {
-    slice(so_far, bytes, 1, 1_048_577)
+    let t = size(space.len());
+    if t.how != ANSWERED {
+        return nothing(t.how);
+    }
+    let n = t.count;
+    let how = exactly(space, n);
+    if how != ANSWERED {
+        return nothing(how);
+    }
+    t
 }
 
-// Each of the first n elements of a space from two bytes, `step` bytes after those of the one before:
-// of a slice its own, of a buffer the fill value's.
-fn join_pairs(b: &[u8], at: usize, step: usize, space: &mut [u16], n: usize)
-    requires { Elements 2 b.now at step space.old n }
-    ensures { space.new ≡ over space.old 0 (listed n (λ i. two_bytes b.now (at + step * i))) }
+// Two bytes to each of k elements from `at` on.
+fn join_pairs(b: &[u8], space: &mut [u16], at: usize, k: usize)
+    requires { (at + k ≤ length space.old) × (2 * k ≤ length b.now) }
+    ensures { space.new ≡ over space.old at (listed k (λ i. two_bytes b.now (2 * i))) }
 {
     let mut i = 0;
-    while i < n {
-        space[i] = wire::two(b, at + step * i);
+    while i < k {
+        let j = 2 * i;
+        space[at + i] = bytes::pair(b[j], b[j + 1]);
         i += 1;
     }
 }
 
-// The same from four bytes.
-fn join_fours(b: &[u8], at: usize, step: usize, space: &mut [u32], n: usize)
-    requires { Elements 4 b.now at step space.old n }
-    ensures { space.new ≡ over space.old 0 (listed n (λ i. four_bytes b.now (at + step * i))) }
+// The first n elements of a space, by way of a block of bytes; how that went.
+fn pairs(b: &mut [u8], space: &mut [u16], n: usize) -> u8
+    requires { (n ≤ length space.old) × (2 ≤ length b.old) }
+{
+    let mut at = 0;
+    while at < n {
+        let k = smaller(n - at, b.len() / 2);
+        let how = exactly(b, 2 * k);
+        if how != ANSWERED {
+            return how;
+        }
+        join_pairs(b, space, at, k);
+        at += k;
+    }
+    ANSWERED
+}
+
+// A read-only slice of values: two bytes each.
+pub(crate) fn values(space: &mut [u16]) -> Taken
+    ensures { IsPrefixLen result.count space.new }
+{
+    let t = size(space.len());
+    if t.how != ANSWERED {
+        return nothing(t.how);
+    }
+    let n = t.count;
+    let mut b = io::large_buffer();
+    let how = pairs(&mut b, space, n);
+    if how != ANSWERED {
+        return nothing(how);
+    }
+    t
+}
+
+// Four bytes to each of n elements.
+fn join_fours(b: &[u8], space: &mut [u32], n: usize)
+    requires { (n ≤ length space.old) × (4 * n ≤ length b.now) }
+    ensures { space.new ≡ over space.old 0 (listed n (λ i. four_bytes b.now (4 * i))) }
 {
     let mut i = 0;
     while i < n {
-        space[i] = wire::four(b, at + step * i);
+        let j = 4 * i;
+        space[i] = bytes::four(bytes::pair(b[j], b[j + 1]), bytes::pair(b[j + 2], b[j + 3]));
         i += 1;
     }
 }
 
-// A read-only slice of values.
-pub(crate) fn values(so_far: Taken, bytes: &mut [u8], space: &mut [u16]) -> Taken
-    requires { 2 * length space.old ≤ length bytes.old }
+// The first n elements of a space, by way of a block that has room for them all; how that went.
+fn fours(b: &mut [u8], space: &mut [u32], n: usize) -> u8
+    requires { n ≤ length space.old }
+{
+    if b.len() / 4 < n {
+        return BAD;
+    }
+    let how = exactly(b, 4 * n);
+    join_fours(b, space, n);
+    how
+}
+
+// A read-only slice of counts: four bytes each. 4,096 of them have room in the block.
+pub(crate) fn counts(space: &mut [u32]) -> Taken
     ensures { IsPrefixLen result.count space.new }
 {
-    let t = slice(so_far, bytes, 2, space.len());
+    let t = size(space.len());
+    if t.how != ANSWERED {
+        return nothing(t.how);
+    }
     let n = t.count;
-    join_pairs(bytes, 0, 2, space, n);
+    let mut b = io::large_buffer();
+    let how = fours(&mut b, space, n);
+    if how != ANSWERED {
+        return nothing(how);
+    }
     t
 }
 
-// One of counts.
-pub(crate) fn counts(so_far: Taken, bytes: &mut [u8], space: &mut [u32]) -> Taken
-    requires { 4 * length space.old ≤ length bytes.old }
-    ensures { IsPrefixLen result.count space.new }
+// The first n places of a space are set to a value.
+fn set_values(space: &mut [u16], n: usize, v: u16)
+    requires { n ≤ length space.old }
+    ensures { space.new ≡ over space.old 0 (listed n (λ i. v)) }
 {
-    let t = slice(so_far, bytes, 4, space.len());
-    let n = t.count;
-    join_fours(bytes, 0, 4, space, n);
-    t
+    let mut i = 0;
+    while i < n {
+        space[i] = v;
+        i += 1;
+    }
 }
 
 // A buffer of values from the bytes of its length and of the value that fills it (its low 16 bits).
-fn lent_values(b: &[u8], space: &mut [u16]) -> Taken
-    requires { 16 ≤ length b.now }
-    ensures { Lent 65_536 b.now space.old result space.new }
+fn lent_values(b: &[u8; 16], space: &mut [u16]) -> Taken
+    ensures { LentIs 65_536 b.now space.old result space.new }
 {
     let t = up_to(wire::number(b, 0), space.len());
     let n = t.count;
-    join_pairs(b, 8, 0, space, n);
+    set_values(space, n, (wire::number(b, 1) % 65_536) as u16);
     t
 }
 
 // The same, with its bytes read from the input.
-pub(crate) fn value_buffer(so_far: Taken, space: &mut [u16]) -> Taken
+pub(crate) fn value_buffer(space: &mut [u16]) -> Taken
     ensures { IsPrefixLen result.count space.new }
 {
     let mut b = [0u8; 16];
-    let how = so_far.how;
-    match fill(how, &mut b) {
-        Turn::Well => lent_values(&b, space),
-        wrong => nothing(wrong),
+    let how = fill(&mut b);
+    if how != ANSWERED {
+        return nothing(how);
+    }
+    lent_values(&b, space)
+}
+
+fn set_counts(space: &mut [u32], n: usize, v: u32)
+    requires { n ≤ length space.old }
+    ensures { space.new ≡ over space.old 0 (listed n (λ i. v)) }
+{
+    let mut i = 0;
+    while i < n {
+        space[i] = v;
+        i += 1;
     }
 }
 
 // A buffer of counts, likewise (its low 32 bits).
-fn lent_counts(b: &[u8], space: &mut [u32]) -> Taken
-    requires { 16 ≤ length b.now }
-    ensures { Lent 4_294_967_296 b.now space.old result space.new }
+fn lent_counts(b: &[u8; 16], space: &mut [u32]) -> Taken
+    ensures { LentIs 4_294_967_296 b.now space.old result space.new }
 {
     let t = up_to(wire::number(b, 0), space.len());
     let n = t.count;
-    join_fours(b, 8, 0, space, n);
+    set_counts(space, n, (wire::number(b, 1) % 4_294_967_296) as u32);
     t
 }
 
-pub(crate) fn count_buffer(so_far: Taken, space: &mut [u32]) -> Taken
+pub(crate) fn count_buffer(space: &mut [u32]) -> Taken
     ensures { IsPrefixLen result.count space.new }
 {
     let mut b = [0u8; 16];
-    let how = so_far.how;
-    match fill(how, &mut b) {
-        Turn::Well => lent_counts(&b, space),
-        wrong => nothing(wrong),
+    let how = fill(&mut b);
+    if how != ANSWERED {
+        return nothing(how);
     }
+    lent_counts(&b, space)
 }

@@ -1,32 +1,15 @@
-// Numbers from the bytes of a request, the low one first: the elements of slices, and the numbers, of
-// eight bytes each, signed ones in two's complement.
+// The numbers of a request: eight bytes each, the low one first, signed ones in two's complement.
 ghost use Rattle.std.specs.Prelude.{◌≡◌, ◌+◌, ◌*◌, ◌≤◌, length};
 ghost use Rattle.std.specs.Int.{w64};
 ghost use Rattle.std.proofs.Common.{to_z};
-ghost use Rattle.arithmetic.specs.Bytes.{two_bytes, four_bytes, eight_bytes};
+ghost use Rattle.arithmetic.specs.Bytes.{eight_bytes};
 ghost use Rattle.units.specs.Units.{sixteenths};
 ghost use Rattle.calls.specs.Space.{argument};
 
 use arithmetic::bytes;
 use units::Sixteenths;
 
-// The two bytes from `at` on.
-pub(crate) fn two(b: &[u8], at: usize) -> u16
-    requires { at + 2 ≤ length b.now }
-    ensures { result ≡ two_bytes b.now at }
-{
-    bytes::pair(b[at], b[at + 1])
-}
-
-// The four.
-pub(crate) fn four(b: &[u8], at: usize) -> u32
-    requires { at + 4 ≤ length b.now }
-    ensures { result ≡ four_bytes b.now at }
-{
-    bytes::four(two(b, at), two(b, at + 2))
-}
-
-// The eight, one place after the other.
+// The eight bytes from `at` on.
 fn eight(b: &[u8], at: usize) -> [u8; 8]
     requires { at + 8 ≤ length b.now }
     ensures { eight_bytes result 0 ≡ eight_bytes b.now at }

@@ -1,14 +1,14 @@
 -- Sums over the levels of a list: f of each level, added. Sorting leaves them as they are. Assumes nothing.
 use mathlib.Core.Path.{◌≡◌, refl, sym, ap, ◌∙◌}
 use mathlib.Core.Logic.{∥∥₁_elim}
-use mathlib.Core.List.{List, [], ◌∷◌, ◌++◌, Permᴰ}
+use mathlib.Core.List.{List, [], ◌∷◌, Permᴰ}
 use Prim.Native.Nat.{ℕ, ◌+◌, ◌≤◌, ◌<◌}
 use native.Mathlib.Nat.{ℕ_set}
 use native.Mathlib.Omega.{arith}
 use lib.ListN.{length, get_or, take}
 use lib.Seq.{get_or-take, length-take-le}
 use Rattle.arithmetic.specs.Sums.{sum}
-use Rattle.arithmetic.proofs.Sums.{sum_none, sum_first, sum_more, sum_most, sum_same, sum_equal}
+use Rattle.arithmetic.proofs.Sums.{sum_first, sum_more, sum_most, sum_same, sum_equal}
 use Rattle.filter.specs.Median.{sorted}
 use Rattle.filter.proofs.Sorting.{same_levels}
 
@@ -28,12 +28,6 @@ each_same f (Permᴰ.trans p q) = each_same f p ∙ each_same f q
 
 pub each_sorted : (f : ℕ → ℕ) (l : List ℕ) → each f (sorted l) ≡ each f l
 each_sorted f l = ∥∥₁_elim (same_levels l) (ℕ_set (each f (sorted l)) (each f l)) (each_same f)
-
--- those of two lists, one after the other
-pub each_append : (f : ℕ → ℕ) (l m : List ℕ) → each f (l ++ m) ≡ each f l + each f m
-unfolding each
-each_append f [] m = omega (arith, sum_none (λ i. f (get_or [] i 0)))
-each_append f (x ∷ l) m = omega (arith, each_cons f x (l ++ m), each_cons f x l, each_append f l m)
 
 -- one for each level is how many there are
 each_one : (l : List ℕ) → each (λ _. 1) l ≡ length l

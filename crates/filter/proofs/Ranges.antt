@@ -1,7 +1,7 @@
 -- What a pass makes of lists whose elements are at most b. Assumes nothing.
 use mathlib.Core.List.{List, [], ◌∷◌, ◌++◌}
-use mathlib.Core.Path.{◌≡◌, ap, ◌∙◌}
 use Prim.Native.Nat.{ℕ, zero, suc, ◌+◌, ◌-◌, ◌*◌, ◌/◌, ◌≤◌, zero-le, max}
+use mathlib.Core.Path.{◌≡◌}
 use native.Mathlib.Nat.{le_trans}
 use native.Mathlib.Omega.{arith}
 use lib.ListN.{length, take}
@@ -9,9 +9,9 @@ use lib.Seq.{slice, take-take}
 use Rattle.arithmetic.specs.Lists.{AtMost}
 use Rattle.arithmetic.proofs.Lists.{most_cons, most_append, most_take, most_slice, most_joined}
 use Rattle.filter.specs.Median.{near, insert, insert_all, sorted, twice_median, block, row_of, pass_row, pass}
+use Rattle.picture.specs.Picture.{Side}
 use Rattle.filter.specs.Filter.{pass_one, pass_two, pass_three}
-use Rattle.filter.specs.inside.Asked.{Picture, Passed}
-use Rattle.filter.proofs.Drawn.{length-pass}
+use Rattle.filter.specs.Asked.{Picture}
 
 -- a level put into its place
 most_insert : (b v : ℕ) (l : List ℕ) → v ≤ b → AtMost b l → AtMost b (insert v l)
@@ -41,30 +41,25 @@ most_near : (b i : ℕ) (row : List ℕ) → AtMost b row → AtMost b (near i r
 unfolding near
 most_near b i row p = most_slice b (i - 1) (i + 2) row p
 
-most_block : (b : ℕ) (above here below : List ℕ) (i : ℕ) → AtMost b above → AtMost b here → AtMost b below
-    → AtMost b (block above here below i)
+most_block : (b : ℕ) (above here below : List ℕ) (i : ℕ) → AtMost b above → AtMost b here → AtMost b below → AtMost b (block above here below i)
 unfolding block
 most_block b above here below i p q r =
     most_append b (near i above ++ near i here) (near i below)
     (most_append b (near i above) (near i here) (most_near b i above p) (most_near b i here q))
     (most_near b i below r)
 
-pub most_row : (b : ℕ) (above here below : List ℕ) → AtMost b above → AtMost b here → AtMost b below
-    → AtMost (b + b) (row_of above here below)
+pub most_row : (b : ℕ) (above here below : List ℕ) → AtMost b above → AtMost b here → AtMost b below → AtMost (b + b) (row_of above here below)
 unfolding row_of
 most_row b above here below p q r =
     most_joined (b + b) (length here) (λ i. twice_median (block above here below i) ∷ [])
-    (λ i. let most = most_median b (block above here below i) (most_block b above here below i p q r) in
-    most_cons (b + b) (twice_median (block above here below i)) [] most (λ k. zero-le))
+    (λ i. most_cons (b + b) (twice_median (block above here below i)) [] (most_median b (block above here below i) (most_block b above here below i p q r)) (λ k. zero-le))
 
 -- a pass at most doubles what it is given
 pub most_pass : (b w h : ℕ) (x : List ℕ) → AtMost b x → AtMost (b + b) (pass w h x)
 unfolding pass pass_row
 most_pass b w h x p =
-    let most-part : (f t : ℕ) → AtMost b (slice f t x) = λ f t. most_slice b f t x p in
     most_joined (b + b) h (pass_row w x)
-    (λ j. most_row b (slice (j * w - w) (j * w) x) (slice (j * w) (j * w + w) x) (slice (j * w + w) (j * w + w + w) x)
-    (most-part (j * w - w) (j * w)) (most-part (j * w) (j * w + w)) (most-part (j * w + w) (j * w + w + w)))
+    (λ j. most_row b (slice (j * w - w) (j * w) x) (slice (j * w) (j * w + w) x) (slice (j * w + w) (j * w + w + w) x) (most_slice b (j * w - w) (j * w) x p) (most_slice b (j * w) (j * w + w) x p) (most_slice b (j * w + w) (j * w + w + w) x p))
 
 -- each pass's range: "the first pass is held in halves, the second in quarters, the third in eighths (0 to 2,040)"
 module _ (w h : ℕ) (levels : List ℕ) (p : AtMost 255 levels) where
@@ -80,24 +75,6 @@ module _ (w h : ℕ) (levels : List ℕ) (p : AtMost 255 levels) where
   unfolding pass_three
   most-pass-three = most_pass 1020 w h (pass_two w h levels) most-pass-two
 
--- ---- passes over a picture
--- where a picture has values up to b, its pass is one with values up to twice that
-pub passed_on : {b w h : ℕ} {x y : List ℕ} → Picture b w h x → y ≡ pass w h x → Picture (b + b) w h y
-passed_on {b} {w} {h} {x} picture is =
-    record {
-      sides = picture.sides;
-      whole = rw is (length-pass w h x picture.whole);
-      small = rw is (most_pass b w h x picture.small);
-    }
-
--- which another pass may follow
-pub small_enough : {b w h : ℕ} {x : List ℕ} → b ≤ 1020 → Picture b w h x → Picture 1020 w h x
-small_enough few picture =
-    record { sides = picture.sides; whole = picture.whole; small = λ k. le_trans (picture.small k) few }
-
-pub all_passed : {w h : ℕ} {levels zero one two three : List ℕ} → zero ≡ levels → one ≡ pass w h zero → two ≡ pass w h one
-    → three ≡ pass w h two → Passed w h levels three two
-unfolding pass_one pass_two pass_three
-all_passed {w} {h} none first second third =
-    let two_is = second ∙ ap (pass w h) (first ∙ ap (pass w h) none) in
-    record { is_pass_three = third ∙ ap (pass w h) two_is; is_pass_two = two_is }
+-- a list that is small enough, and of the right length, is a picture that a pass can take
+pub picture_of : (b w h : ℕ) (x y : List ℕ) → Side w × Side h → length x ≡ w * h → x ≡ y → AtMost b y → b ≤ 1020 → Picture w h x
+picture_of b w h x y sides long e p q = record { sides = sides; whole = long; small = rw e (λ k. le_trans (p k) q) }

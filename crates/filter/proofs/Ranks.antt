@@ -2,19 +2,19 @@
 --   rank_is      what has at most r levels below it and at most n − 1 − r above it is the sorted list's level at rank r
 --   rank-has     that level has no more of either
 --   some_level   and it is one of the levels
--- and so `middle_of_nine`, the sentence itself; and where each level stands twice, the median is the same. Assumes nothing.
-use mathlib.Core.Path.{◌≡◌, refl, sym, ap, ◌∙◌}
-use mathlib.Core.List.{List, [], ◌∷◌, ◌++◌}
-use Prim.Native.Nat.{ℕ, zero, suc, ◌+◌, ◌-◌, ◌*◌, ◌/◌, ◌≤◌, ◌<◌}
+-- and so `middle_of_nine`, the sentence itself. Assumes nothing.
+use mathlib.Core.Path.{◌≡◌, sym, ap, ◌∙◌}
+use mathlib.Core.List.{List}
+use Prim.Native.Nat.{ℕ, zero, suc, ◌+◌, ◌-◌, ◌*◌, ◌≤◌, ◌<◌}
 use native.Mathlib.Decide.{dec_le}
 use native.Mathlib.Omega.{arith}
 use borrow.Author.Tests.{lt-ltb, le-ltb}
-use lib.ListN.{length, get_or, length-append}
+use lib.ListN.{length, get_or}
 use Rattle.arithmetic.proofs.Sums.{sum_most, sum_equal, sum_add, sum_cut}
 use Rattle.filter.specs.Median.{sorted, twice_median}
 use Rattle.filter.specs.Counting.{one_below, count_below, count_above, OfRank}
 use Rattle.filter.proofs.Sorting.{Ascending, ascending, odd}
-use Rattle.filter.proofs.Each.{each, each_sorted, each_append, length_sorted}
+use Rattle.filter.proofs.Each.{each, each_sorted, length_sorted}
 
 -- ---- one level below another
 pub one_where_below : (a b : ℕ) → a < b → one_below a b ≡ 1
@@ -137,35 +137,6 @@ module _ (l : List ℕ) (r : ℕ) (inside : r < length l) where
       let above : ℕ → ℕ = λ i. one_below ranked (get_or l i 0) in
       let all = sum_equal 1 (length l) (λ i. below i + above i) (λ i h. one_side (get_or l i 0) ranked (other i h)) in
       omega (arith, rank-has.few_below, rank-has.few_above, all, sum_add (length l) below above)
-
--- ---- where each level stands twice, the middle is the same
-module _ (l : List ℕ) (r : ℕ) (inside : r < length l) where
-  twice-below : (v : ℕ) → count_below v (l ++ l) ≡ count_below v l + count_below v l
-  unfolding count_below each
-  twice-below v = each_append (λ x. one_below x v) l l
-
-  twice-above : (v : ℕ) → count_above v (l ++ l) ≡ count_above v l + count_above v l
-  unfolding count_above each
-  twice-above v = each_append (λ x. one_below v x) l l
-
-  -- the level of rank r has ranks 2r and 2r + 1
-  twice-ranked : (q : ℕ) → q / 2 ≡ r → get_or (sorted (l ++ l)) q 0 ≡ ranked l r inside
-  twice-ranked q half =
-      let v = ranked l r inside in
-      let has = rank-has l r inside in
-      let long = length-append l l in
-      sym (rank_is (l ++ l) q (omega arith) v
-      (record { few_below = omega (arith, twice-below v, has.few_below); few_above = omega (arith, twice-above v, has.few_above) }))
-
-pub twice_the_levels : (l : List ℕ) → twice_median (l ++ l) ≡ twice_median l
-unfolding twice_median
-twice_the_levels [] = refl
-twice_the_levels (x ∷ l) =
-    let n = length (x ∷ l) in
-    let long = length-append (x ∷ l) (x ∷ l) in
-    let lower : (length (x ∷ l ++ (x ∷ l)) - 1) / 2 / 2 ≡ (n - 1) / 2 = omega arith in
-    let upper : length (x ∷ l ++ (x ∷ l)) / 2 / 2 ≡ n / 2 = omega arith in
-    rw (twice-ranked (x ∷ l) ((n - 1) / 2) (omega arith) _ lower, twice-ranked (x ∷ l) (n / 2) (omega arith) _ upper)
 
 -- ---- the sentence: nine levels, and v with at most four below it and at most four above it
 pub middle_of_nine : (l : List ℕ) (v : ℕ) → length l ≡ 9 → count_below v l ≤ 4 → count_above v l ≤ 4 → twice_median l ≡ 2 * v

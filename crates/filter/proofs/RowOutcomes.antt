@@ -1,23 +1,21 @@
 -- What the call for one row may answer and leave; and a row with none above it or below it. Assumes nothing.
-use mathlib.Core.Path.{◌≡◌, refl, sym, ap, ◌∙◌}
+use mathlib.Core.Path.{◌≡◌, sym, ap, ◌∙◌}
 use mathlib.Core.Bool.{Bool, true, false}
 use mathlib.Core.List.{List, [], ◌++◌}
 use mathlib.Core.Logic.{inl, inr}
 use Prim.Native.Nat.{ℕ, ◌≤◌}
 use native.Mathlib.Decide.{ℕ_discrete}
-use native.Mathlib.Omega.{arith}
 use borrow.Author.Tests.{eq-eqb, ne_eqb}
 use lib.Dec.{eqb}
-use lib.ListN.{length, take, drop}
-use lib.Seq.{length-take-le}
+use lib.ListN.{length, drop}
 use Rattle.arithmetic.specs.Lists.{AtMost, joined}
 use Rattle.answers.specs.Refusals.{Unless}
 use Rattle.arithmetic.proofs.Lists.{no_elements}
 use Rattle.answers.proofs.Refusals.{stops, goes_on, past}
 use Rattle.filter.specs.Median.{row_of}
 use Rattle.filter.specs.Row.{Beside, Small, RowOutcome, row_outcome, RowIs}
-use Rattle.filter.specs.inside.Asked.{Row, Two, Three, Around, Onto}
-use Rattle.filter.proofs.Blocks.{lower_row, alone_row}
+use Rattle.filter.specs.Asked.{Row, RowOrNone}
+use Rattle.filter.proofs.Blocks.{lower_row}
 
 -- ---- the tests
 -- a row that has values may lie beside one of n where it has as many
@@ -39,65 +37,24 @@ small_is above here below t a h (inr b) = goes_on (a, h, b.0) b.1
 
 -- ---- any row
 -- one beside that has values is as long as the row here
-pub there : {n values : ℕ} → (values ≡ 0 → ⊥) → Beside n values → values ≡ n
-there some (inl z) = absurd (some z)
-there some (inr e) = e
+pub there : {n : ℕ} (row : List ℕ) → (length row ≡ 0 → ⊥) → RowOrNone n row → Row n row
+there row some (inl z, small) = absurd (some z)
+there row some (inr e, small) = (e, small)
 
-module _ {above here below out : List ℕ} (asked : Onto (Around above here below) here out) where
-  abbrev Beside-it : List ℕ → Type 0
-  Beside-it row = Row (length here) row
-
-  above_row : (length above ≡ 0 → ⊥) → Beside-it above
-  above_row some = record { long = there some asked.rows.above_fits; small = asked.rows.above_small }
-
-  here_row : Beside-it here
-  here_row = record { long = refl; small = asked.rows.here_small }
-
-  below_row : (length below ≡ 0 → ⊥) → Beside-it below
-  below_row some = record { long = there some asked.rows.below_fits; small = asked.rows.below_small }
-
-  -- a row of no values
-  pub none_here : length here ≡ 0 → out ≡ row_of above here below
+-- a row of no values, and rows with none above or below
+module _ (above here below : List ℕ) where
+  pub none_here : (out : List ℕ) → length here ≡ 0 → length out ≡ length here → out ≡ row_of above here below
   unfolding row_of joined
-  none_here z = no_elements out (asked.room ∙ z) ∙ rw z
+  none_here out z e = no_elements out (e ∙ z) ∙ rw z
 
-  -- a row alone
-  pub alone : 1 ≤ length here → Onto (Two here here) here out
-  alone some = record { rows = record { upper_row = here_row; lower_row = here_row; some = some }; room = asked.room }
+  pub alone : length above ≡ 0 → length below ≡ 0 → row_of [] here [] ≡ row_of above here below
+  alone a b = rw (no_elements above a, no_elements below b)
 
-  pub alone-is : length above ≡ 0 → length below ≡ 0 → row_of [] here here ≡ row_of above here below
-  alone-is a b = rw (no_elements above a, no_elements below b) (alone_row here)
+  pub first : length above ≡ 0 → row_of [] here below ≡ row_of above here below
+  first a = rw (no_elements above a)
 
-  -- none above it
-  pub first : 1 ≤ length here → (length below ≡ 0 → ⊥) → Onto (Two here below) here out
-  first some b = record { rows = record { upper_row = here_row; lower_row = below_row b; some = some }; room = asked.room }
-
-  pub first-is : length above ≡ 0 → row_of [] here below ≡ row_of above here below
-  first-is a = rw (no_elements above a)
-
-  -- none below it
-  pub last : 1 ≤ length here → (length above ≡ 0 → ⊥) → Onto (Two above here) above out
-  last some a =
-      let long = (above_row a).long in
-      record {
-        rows = record {
-          upper_row = record { long = refl; small = (above_row a).small };
-          lower_row = record { long = sym long; small = here_row.small };
-          some = omega arith;
-        };
-        room = asked.room ∙ sym long;
-      }
-
-  pub last-is : (length above ≡ 0 → ⊥) → length below ≡ 0 → row_of [] above here ≡ row_of above here below
-  last-is a b = rw (no_elements below b) (sym (lower_row above here (above_row a).long))
-
-  -- both
-  pub inside : 1 ≤ length here → (length above ≡ 0 → ⊥) → (length below ≡ 0 → ⊥) → Onto (Three above here below) here out
-  inside some a b =
-      record {
-        rows = record { above_row = above_row a; here_row = here_row; below_row = below_row b; some = some };
-        room = asked.room;
-      }
+  pub last : length below ≡ 0 → length above ≡ length here → row_of [] above here ≡ row_of above here below
+  last b e = rw (no_elements below b) (sym (lower_row above here e))
 
 -- ---- the call
 -- slices that no number refuses
@@ -105,21 +62,6 @@ pub record RowFits (above here below output : List ℕ) : Type 0 where
   pub beside : Beside (length here) (length above) × Beside (length here) (length below)
   pub long_output : length here ≤ length output
   pub small : Small above here below
-
--- what `any_row` asks, with the output's front for the row
-pub row_asks : {above here below output : List ℕ} → RowFits above here below output
-    → Onto (Around above here below) here (take (length here) output)
-row_asks {above} {here} {below} {output} fit =
-    record {
-      rows = record {
-        above_fits = fit.beside.0;
-        below_fits = fit.beside.1;
-        above_small = fit.small.0;
-        here_small = fit.small.1;
-        below_small = fit.small.2;
-      };
-      room = length-take-le (length here) output fit.long_output;
-    }
 
 module _ (above here below output : List ℕ) where
   -- a call that is done

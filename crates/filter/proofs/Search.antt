@@ -11,8 +11,7 @@ use lib.Seq.{get_or-take, length-take-le}
 use Rattle.answers.specs.Refusals.{Unless}
 use Rattle.arithmetic.proofs.Sums.{sum_none}
 use Rattle.filter.specs.Median.{sorted, twice_median}
-use Rattle.filter.specs.Counting.{one_below, count_below, count_above, OfRank}
-use Rattle.filter.specs.inside.Counting.{SidesAre, MiddleRanks, Few}
+use Rattle.filter.specs.Counting.{one_below, count_below, count_above, OfRank, SidesAre}
 use Rattle.filter.proofs.Each.{each, each_more, each-few}
 use Rattle.filter.proofs.Ranks.{none_where_below, one_most, rank_is, rank-has, some_level}
 
@@ -72,20 +71,20 @@ module _ (l : List ℕ) (r : ℕ) (inside : r < length l) where
       (k v below above low high : ℕ)
       (is : v ≡ get_or l k 0)
       (counts : SidesAre v l below above)
-      (low_is : low ≡ r)
+      (low-is : low ≡ r)
       (high_is : high ≡ length l - 1 - r)
     where
-      when-taken : Few below above low high → v ≡ get_or (sorted l) r 0
+      when-taken : (below ≤ low) × (above ≤ high) → v ≡ get_or (sorted l) r 0
       when-taken few =
           rank_is l r inside v
-          (record { few_below = omega (arith, counts.below_is); few_above = omega (arith, counts.above_is) })
+          (record { few_below = omega (arith, few.0, counts.below_is); few_above = omega (arith, few.1, counts.above_is) })
 
-      then-taken : v ≡ get_or (sorted l) r 0 → Few below above low high
+      then-taken : v ≡ get_or (sorted l) r 0 → (below ≤ low) × (above ≤ high)
       then-taken e =
           let has : OfRank l r v = rw e (rank-has l r inside) in
-          record { few_below = omega (arith, counts.below_is); few_above = omega (arith, counts.above_is) }
+          (omega (arith, counts.below_is, has.few_below), omega (arith, counts.above_is, has.few_above))
 
-      pub sought-more : (before now : ℕ) → Unless (Few below above low high) (now ≡ before) (now ≡ v) → Sought l r k before
+      pub sought-more : (before now : ℕ) → Unless ((below ≤ low) × (above ≤ high)) (now ≡ before) (now ≡ v) → Sought l r k before
           → Sought l r (k + 1) now
       sought-more before now (inr taken) so_far = record { state = inl (taken.1 ∙ when-taken taken.0) }
       sought-more before now (inl left) so_far =
@@ -127,18 +126,18 @@ module _ (t : List ℕ) (n : ℕ) (some : 1 ≤ n) (long : n ≤ length t) where
       }
 
   -- of n levels n − 1 − (n − 1)/2 is n/2, so that the two ranks are also how many may lie above
-  pub middles-more : (k v below above low high lower upper lower' upper' : ℕ) → k < n → v ≡ get_or t k 0
-      → SidesAre v (take n t) below above → MiddleRanks n low high
-      → Unless (Few below above low high) (lower' ≡ lower) (lower' ≡ v)
-      → Unless (Few below above high low) (upper' ≡ upper) (upper' ≡ v)
+  pub middles-more : (k v below above low high lower upper lower' upper' : ℕ) → k < n → v ≡ get_or t k 0 → SidesAre v (take n t) below above
+      → low ≡ (n - 1) / 2 → high ≡ n / 2
+      → Unless ((below ≤ low) × (above ≤ high)) (lower' ≡ lower) (lower' ≡ v)
+      → Unless ((below ≤ high) × (above ≤ low)) (upper' ≡ upper) (upper' ≡ v)
       → Middles t n k lower upper → Middles t n (k + 1) lower' upper'
-  middles-more k v below above low high lower upper lower' upper' here is counts ranks takes-lower takes-upper so_far =
+  middles-more k v below above low high lower upper lower' upper' here is counts low-is high_is takes-lower takes-upper so_far =
       let l = take n t in
       let v-is = is ∙ in_take k here in
-      let above_lower : high ≡ length l - 1 - (n - 1) / 2 = omega (arith, many, ranks.high_is) in
-      let above-upper : low ≡ length l - 1 - n / 2 = omega (arith, many, ranks.low_is) in
-      let for-lower = sought-more l ((n - 1) / 2) low-inside k v below above low high v-is counts ranks.low_is above_lower in
-      let for-upper = sought-more l (n / 2) high-inside k v below above high low v-is counts ranks.high_is above-upper in
+      let above_lower : high ≡ length l - 1 - (n - 1) / 2 = omega (arith, many) in
+      let above-upper : low ≡ length l - 1 - n / 2 = omega (arith, many) in
+      let for-lower = sought-more l ((n - 1) / 2) low-inside k v below above low high v-is counts low-is above_lower in
+      let for-upper = sought-more l (n / 2) high-inside k v below above high low v-is counts high_is above-upper in
       record {
         lower_sought = for-lower lower lower' takes-lower so_far.lower_sought;
         upper_sought = for-upper upper upper' takes-upper so_far.upper_sought;

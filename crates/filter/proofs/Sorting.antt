@@ -3,8 +3,7 @@
 use mathlib.Core.Path.{◌≡◌, refl, sym, ap, ◌∙◌}
 use mathlib.Core.Logic.{◌⊎◌, inl, inr, ∥∥₁_elim}
 use mathlib.Core.List.Permᴰ
-use mathlib.Core.List.{List, [], ◌∷◌, is_set, Perm}
-use mathlib.Core.List.{Permᴰ}
+use mathlib.Core.List.{List, [], ◌∷◌, is_set, Perm, Permᴰ}
 use Prim.Native.Nat.{ℕ, zero, suc, ◌+◌, ◌-◌, ◌*◌, ◌/◌, ◌≤◌, ◌<◌, min, max}
 use native.Mathlib.Nat.{ℕ_set, min-eq_left, min-eq_right, max-eq_left, max-eq_right, min_comm, max_comm}
 use native.Mathlib.Decide.{dec_le}
@@ -33,10 +32,8 @@ unfolding insert
 insert_either a b l = rw (min_comm a b, max_comm a b)
 
 -- a goes in before x, b after it
-insert_around : (a b x : ℕ) (l : List ℕ) → a ≤ x → x ≤ b → insert x (insert b l) ≡ insert b (insert x l)
-    → insert a (insert b (x ∷ l)) ≡ insert b (insert a (x ∷ l))
-insert_around a b x l g h e =
-    rw (insert_large b x l h, insert_small a x l g, insert_small a x (insert b l) g, insert_large b a (insert x l) (omega arith), e)
+insert_around : (a b x : ℕ) (l : List ℕ) → a ≤ x → x ≤ b → insert x (insert b l) ≡ insert b (insert x l) → insert a (insert b (x ∷ l)) ≡ insert b (insert a (x ∷ l))
+insert_around a b x l g h e = rw (insert_large b x l h, insert_small a x l g, insert_small a x (insert b l) g, insert_large b a (insert x l) (omega arith), e)
 
 -- if two go into l in either order, then into x and l too
 module _ (x : ℕ) (l : List ℕ) (e : (c d : ℕ) → insert c (insert d l) ≡ insert d (insert c l)) where
@@ -44,8 +41,7 @@ module _ (x : ℕ) (l : List ℕ) (e : (c d : ℕ) → insert c (insert d l) ≡
   commutes-more a b (inl g) (inl h) = rw (insert_small b x l h, insert_small a x l g) (insert_either a b (insert x l))
   commutes-more a b (inl g) (inr h) = insert_around a b x l g h (e x b)
   commutes-more a b (inr g) (inl h) = sym (insert_around b a x l h g (e x a))
-  commutes-more a b (inr g) (inr h) =
-      rw (insert_large b x l h, insert_large a x l g, insert_large a x (insert b l) g, insert_large b x (insert a l) h, e a b)
+  commutes-more a b (inr g) (inr h) = rw (insert_large b x l h, insert_large a x l g, insert_large a x (insert b l) g, insert_large b x (insert a l) h, e a b)
 
 insert_commutes : (a b : ℕ) (l : List ℕ) → insert a (insert b l) ≡ insert b (insert a l)
 unfolding insert

@@ -1,6 +1,6 @@
 -- Document 02, P2: the middle of nine is "a level with at most four below and at most four above". No promise cites this: that such a
 -- level is the middle one of the sorted levels is proofs/Ranks.antt.
-use Rattle.std.specs.Prelude.{cond, List, ℕ, ◌-◌, ◌≤◌, ltb, length, get_or}
+use Rattle.std.specs.Prelude.{◌≡◌, cond, List, ℕ, ◌-◌, ◌≤◌, ltb, length, get_or}
 use Rattle.arithmetic.specs.Sums.{sum}
 
 -- 1 where a lies below b, else 0
@@ -20,3 +20,8 @@ count_above v l = sum (length l) (λ i. one_below v (get_or l i 0))
 pub record OfRank (l : List ℕ) (r v : ℕ) : Type 0 where
   pub few_below : count_below v l ≤ r
   pub few_above : count_above v l ≤ length l - 1 - r
+
+-- both counts of v among the levels
+pub record SidesAre (v : ℕ) (l : List ℕ) (below above : ℕ) : Type 0 where
+  pub below_is : below ≡ count_below v l
+  pub above_is : above ≡ count_above v l

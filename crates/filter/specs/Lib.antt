@@ -3,4 +3,4 @@ pub mod Filter
 pub mod Row
 pub mod Whiteboard
 pub mod Counting
-pub mod inside
+pub mod Asked

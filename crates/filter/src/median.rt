@@ -9,17 +9,18 @@
 // Equal levels lie neither below nor above each other. Several of them may be the middle one, and since
 // they are equal it does not matter which is found. That it is the middle one of the sorted levels is
 // `rank_is` in proofs/Ranks.antt, for any number of levels and any rank.
-ghost use Rattle.std.specs.Prelude.{◌≡◌, take};
+ghost use Rattle.std.specs.Prelude.{◌≡◌, ◌-◌, ◌/◌, ◌≤◌, ◌<◌, length, get_or, take};
+ghost use Rattle.arithmetic.specs.Lists.{AtMost};
 ghost use Rattle.answers.specs.Refusals.{Unless};
 ghost use Rattle.filter.specs.Median.{twice_median};
-ghost use Rattle.filter.specs.Counting.{one_below};
-ghost use Rattle.filter.specs.inside.Counting.{SidesAre, Count, Levels, MiddleRanks, Few, AtPlace, Counting, Pair};
+ghost use Rattle.filter.specs.Counting.{one_below, SidesAre};
+ghost use Rattle.filter.specs.Asked.{Count};
 
 // Twice the median of the first n of t: the lower and the upper middle level, added; of an odd number
 // they are one. The search begins with the first level: where none of the others is found, it is the
 // one.
 pub(crate) fn twice(t: &[u16], n: usize) -> u16
-    requires { Levels t.now n }
+    requires { Count n × (n ≤ length t.now) × AtMost 1_020 (take n t.now) }
     ensures { result ≡ twice_median (take n t.now) }
 {
     let ranks = middle_ranks(n);
@@ -48,7 +49,7 @@ struct Ranks {
 // "A pixel so has 1, 2, 3, 4, 6 or 9 levels in its block."
 fn middle_ranks(n: usize) -> Ranks
     requires { Count n }
-    ensures { MiddleRanks n result.low result.high }
+    ensures { (result.low ≡ (n - 1) / 2) × (result.high ≡ n / 2) }
 {
     match n {
         1 => Ranks { low: 0, high: 0 },
@@ -62,7 +63,7 @@ fn middle_ranks(n: usize) -> Ranks
 
 // v, if at most `low` levels lie below it and at most `high` above it; else what was found before.
 fn found(sides: Sides, low: u16, high: u16, v: u16, before: u16) -> u16
-    ensures { Unless (Few sides.below sides.above low high) (result ≡ before) (result ≡ v) }
+    ensures { Unless ((sides.below ≤ low) × (sides.above ≤ high)) (result ≡ before) (result ≡ v) }
 {
     if sides.below <= low && sides.above <= high {
         return v;
@@ -80,7 +81,7 @@ struct Sides {
 // Those of v, which stands at place k, among the first n of t. Those before it and those after it are
 // counted; v itself lies neither below nor above v.
 fn others(t: &[u16], n: usize, k: usize, v: u16) -> Sides
-    requires { AtPlace t.now n k v }
+    requires { (k < n) × (n ≤ length t.now) × (n ≤ 9) × AtMost 1_020 (take n t.now) × (v ≡ get_or t.now k 0) }
     ensures { SidesAre v (take n t.now) result.below result.above }
 {
     let before = count_sides(t, 0, k, v, Sides { below: 0, above: 0 });
@@ -89,7 +90,8 @@ fn others(t: &[u16], n: usize, k: usize, v: u16) -> Sides
 
 // Those of v among the first `end` of t, where `sides` has those among the first `from`.
 fn count_sides(t: &[u16], from: usize, end: usize, v: u16, sides: Sides) -> Sides
-    requires { Counting t.now from end v sides.below sides.above }
+    requires from_le_end { (from ≤ end) × (end ≤ length t.now) × (end ≤ 9) × AtMost 1_020 (take end t.now) × (v ≤ 1_020) }
+    requires sides_are { SidesAre v (take from t.now) sides.below sides.above }
     ensures { SidesAre v (take end t.now) result.below result.above }
 {
     let mut below = sides.below;
@@ -109,7 +111,7 @@ fn count_sides(t: &[u16], from: usize, end: usize, v: u16, sides: Sides) -> Side
 // 1 where a lies below b, else 0. They are compared as signed numbers: for those the processor has an
 // instruction, and a level is far below 32,768.
 fn one_below(a: u16, b: u16) -> u16
-    requires { Pair a b }
+    requires { (a ≤ 1_020) × (b ≤ 1_020) }
     ensures { result ≡ one_below a b }
 {
     if (a as i16) < (b as i16) {

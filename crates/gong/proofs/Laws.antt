@@ -14,8 +14,7 @@ use Rattle.length.specs.declared.Sharpness.{Sharpness}
 use Rattle.length.specs.Length.{sharpness, LengthIs}
 
 -- an answer to the units is an answer to their numbers, and its length goes out as a plain number
-pub handed_on : {s s' : Sixteenths} {p p' : Picometres} {r : Sharpness} {q : ℕ} → s ≡ s' → p ≡ p' → q ≡ r.length.0 → LengthIs s p r
-    → LengthIs s' p' (sharpness r.number q)
+pub handed_on : {s s' : Sixteenths} {p p' : Picometres} {r : Sharpness} {q : ℕ} → s ≡ s' → p ≡ p' → q ≡ r.length.0 → LengthIs s p r → LengthIs s' p' (sharpness r.number q)
 handed_on factor pixel length is = rw (length, ← factor, ← pixel) is
 
 -- and a verdict on M and m in eighths is a verdict on their numbers
@@ -23,6 +22,5 @@ pub judged_on : {N D : ℕ} {M M' m m' : Eighths} {v : Verdict} → M ≡ M' →
 judged_on bright dark is = rw (← bright, ← dark) is
 
 -- and a sample at a place in sixteenths is one at its numbers, and its value goes out as a plain number
-pub sampled_on : (levels : List ℕ) (w h : ℕ) {x x' y y' : Sixteenths} (r : Sampled) {v : ℤ} → x ≡ x' → y ≡ y' → v ≡ r.value
-    → SampleIs levels w h x y r → SampleIs levels w h x' y' (sampled r.number v)
+pub sampled_on : (levels : List ℕ) (w h : ℕ) {x x' y y' : Sixteenths} (r : Sampled) {v : ℤ} → x ≡ x' → y ≡ y' → v ≡ r.value → SampleIs levels w h x y r → SampleIs levels w h x' y' (sampled r.number v)
 sampled_on levels w h r column row value is = rw (value, ← column, ← row) is

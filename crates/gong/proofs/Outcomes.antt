@@ -22,8 +22,7 @@ use Rattle.length.specs.Length.{sharpness, LengthIs}
 use Rattle.length.proofs.Outcomes.{one_length}
 
 -- any two outcomes that `gong_judge` is permitted, the number that it returns and the ratio that it writes, are equal
-module _ (N M m D n q n' q' : ℕ) (this : JudgeIs N (eighths M) (eighths m) D (verdict n q))
-    (that : JudgeIs N (eighths M) (eighths m) D (verdict n' q')) where
+module _ (N M m D n q n' q' : ℕ) (this : JudgeIs N (eighths M) (eighths m) D (verdict n q)) (that : JudgeIs N (eighths M) (eighths m) D (verdict n' q')) where
   same-verdict : verdict n q ≡ verdict n' q'
   same-verdict = one-judge N (eighths M) (eighths m) D (verdict n q) (verdict n' q') this that
 
@@ -31,9 +30,7 @@ module _ (N M m D n q n' q' : ℕ) (this : JudgeIs N (eighths M) (eighths m) D (
   one-gong-judge = (ap (λ (v : Verdict). v.number) same-verdict, ap (λ (v : Verdict). v.ratio) same-verdict)
 
 -- any two outcomes that `gong_measure` is permitted, the number that it returns, the ratio that it writes and both buffers, are equal
-module _ (levels : List ℕ) (w h : ℕ) (output work : List ℕ) (n q n' q' : ℕ) (o k o' k' : List ℕ)
-    (this : MeasureIs levels w h output work (measurement (verdict n q) o k))
-    (that : MeasureIs levels w h output work (measurement (verdict n' q') o' k')) where
+module _ (levels : List ℕ) (w h : ℕ) (output work : List ℕ) (n q n' q' : ℕ) (o k o' k' : List ℕ) (this : MeasureIs levels w h output work (measurement (verdict n q) o k)) (that : MeasureIs levels w h output work (measurement (verdict n' q') o' k')) where
   same-measurement : measurement (verdict n q) o k ≡ measurement (verdict n' q') o' k'
   same-measurement = one-measure levels w h output work (measurement (verdict n q) o k) (measurement (verdict n' q') o' k') this that
 
@@ -45,32 +42,23 @@ module _ (levels : List ℕ) (w h : ℕ) (output work : List ℕ) (n q n' q' : �
     ap (λ (m : Measurement). m.work) same-measurement,
   )
 
--- any two outcomes that `gong_scan_rows` is permitted, the number that it returns, the rows that it writes, the memory and the output,
--- are equal;
+-- any two outcomes that `gong_scan_rows` is permitted, the number that it returns, the rows that it writes, the memory and the output, are equal;
 -- and those of `gong_scan_end`
 parts : {n q n' q' : ℕ} {held output held' output' : List ℕ} → scanned n q held output ≡ scanned n' q' held' output'
     → (n ≡ n') × (q ≡ q') × (held ≡ held') × (output ≡ output')
-parts e = (
-  ap (λ (r : Scanned). r.number) e,
-  ap (λ (r : Scanned). r.rows) e,
-  ap (λ (r : Scanned). r.held) e,
-  ap (λ (r : Scanned). r.output) e,
-)
+parts e = (ap (λ (r : Scanned). r.number) e, ap (λ (r : Scanned). r.rows) e, ap (λ (r : Scanned). r.held) e, ap (λ (r : Scanned). r.output) e)
 
 module _ (n q n' q' : ℕ) (left out left' out' : List ℕ) where
-  pub one-gong-scan-rows : (held levels output : List ℕ) → RowsIs held levels output (scanned n q left out)
-      → RowsIs held levels output (scanned n' q' left' out')
+  pub one-gong-scan-rows : (held levels output : List ℕ) → RowsIs held levels output (scanned n q left out) → RowsIs held levels output (scanned n' q' left' out')
       → (n ≡ n') × (q ≡ q') × (left ≡ left') × (out ≡ out')
-  one-gong-scan-rows held levels output this that =
-      parts (one_rows held levels output (scanned n q left out) (scanned n' q' left' out') this that)
+  one-gong-scan-rows held levels output this that = parts (one_rows held levels output (scanned n q left out) (scanned n' q' left' out') this that)
 
   pub one-gong-scan-end : (held output : List ℕ) → EndIs held output (scanned n q left out) → EndIs held output (scanned n' q' left' out')
       → (n ≡ n') × (q ≡ q') × (left ≡ left') × (out ≡ out')
   one-gong-scan-end held output this that = parts (one_end held output (scanned n q left out) (scanned n' q' left' out') this that)
 
 -- any two outcomes that `gong_two_means` is permitted, the number that it returns and the three that it writes, are equal
-module _ (h : List ℕ) (n k a b n' k' a' b' : ℕ) (this : TwoMeansIs h (answered n k (fraction a b)))
-    (that : TwoMeansIs h (answered n' k' (fraction a' b'))) where
+module _ (h : List ℕ) (n k a b n' k' a' b' : ℕ) (this : TwoMeansIs h (answered n k (fraction a b))) (that : TwoMeansIs h (answered n' k' (fraction a' b'))) where
   same-threshold : answered n k (fraction a b) ≡ answered n' k' (fraction a' b')
   same-threshold = one_two_means h (answered n k (fraction a b)) (answered n' k' (fraction a' b')) this that
 
@@ -83,9 +71,7 @@ module _ (h : List ℕ) (n k a b n' k' a' b' : ℕ) (this : TwoMeansIs h (answer
   )
 
 -- any two outcomes that `gong_sample` is permitted, the number that it returns and the value that it writes, are equal
-module _ (levels : List ℕ) (w h : ℕ) (x y : ℤ) (n n' : ℕ) (v v' : ℤ)
-    (this : SampleIs levels w h (sixteenths x) (sixteenths y) (sampled n v))
-    (that : SampleIs levels w h (sixteenths x) (sixteenths y) (sampled n' v')) where
+module _ (levels : List ℕ) (w h : ℕ) (x y : ℤ) (n n' : ℕ) (v v' : ℤ) (this : SampleIs levels w h (sixteenths x) (sixteenths y) (sampled n v)) (that : SampleIs levels w h (sixteenths x) (sixteenths y) (sampled n' v')) where
   same-sample : sampled n v ≡ sampled n' v'
   same-sample = one_sample levels w h (sixteenths x) (sixteenths y) (sampled n v) (sampled n' v') this that
 
@@ -93,8 +79,7 @@ module _ (levels : List ℕ) (w h : ℕ) (x y : ℤ) (n n' : ℕ) (v v' : ℤ)
   one-gong-sample = (ap (λ (r : Sampled). r.number) same-sample, ap (λ (r : Sampled). r.value) same-sample)
 
 -- any two outcomes that `gong_length` is permitted, the number that it returns and the length that it writes, are equal
-module _ (factor : ℤ) (pixel : ℕ) (n q n' q' : ℕ) (this : LengthIs (sixteenths factor) (picometres pixel) (sharpness n q))
-    (that : LengthIs (sixteenths factor) (picometres pixel) (sharpness n' q')) where
+module _ (factor : ℤ) (pixel : ℕ) (n q n' q' : ℕ) (this : LengthIs (sixteenths factor) (picometres pixel) (sharpness n q)) (that : LengthIs (sixteenths factor) (picometres pixel) (sharpness n' q')) where
   same : sharpness n q ≡ sharpness n' q'
   same = one_length (sixteenths factor) (picometres pixel) (sharpness n q) (sharpness n' q') this that
 

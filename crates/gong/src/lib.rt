@@ -25,8 +25,7 @@ pub extern "C" fn gong_filter(
     output: &mut [u16],
     work: &mut [u16],
 ) -> u8
-    ensures { FilterIs levels.now width height output.old work.old
-        (outcome result output.new work.new) }
+    ensures { FilterIs levels.now width height output.old work.old (outcome result output.new work.new) }
 {
     filter::filter(levels, width, height, output, work)
 }
@@ -47,8 +46,7 @@ pub extern "C" fn gong_scan_rows(
     output: &mut [u16],
     rows: &mut u64,
 ) -> u8
-    ensures { RowsIs held.old levels.now output.old
-        (scanned result rows.new held.new output.new) }
+    ensures { RowsIs held.old levels.now output.old (scanned result rows.new held.new output.new) }
 {
     let given = scan::rows(held, levels, output);
     *rows = given.rows as u64;
@@ -58,8 +56,7 @@ pub extern "C" fn gong_scan_rows(
 // The end of a scan: output receives the filtered rows that are still due, rows how many.
 #[unsafe(no_mangle)]
 pub extern "C" fn gong_scan_end(held: &mut [u16], output: &mut [u16], rows: &mut u64) -> u8
-    ensures { EndIs held.old output.old
-        (scanned result rows.new held.new output.new) }
+    ensures { EndIs held.old output.old (scanned result rows.new held.new output.new) }
 {
     let last = scan::end(held, output);
     *rows = last.rows as u64;
@@ -76,8 +73,7 @@ pub extern "C" fn gong_measure(
     work: &mut [u16],
     ratio: &mut u64,
 ) -> u8
-    ensures { MeasureIs levels.now width height output.old work.old
-        (measurement (verdict result ratio.new) output.new work.new) }
+    ensures { MeasureIs levels.now width height output.old work.old (measurement (verdict result ratio.new) output.new work.new) }
 {
     let measured = judge::measure(levels, width, height, output, work);
     *ratio = measured.ratio;
@@ -110,8 +106,7 @@ pub extern "C" fn gong_two_means(
     numerator: &mut u64,
     denominator: &mut u64,
 ) -> u8
-    ensures { TwoMeansIs histogram.now
-        (answered result rounds.new (fraction numerator.new denominator.new)) }
+    ensures { TwoMeansIs histogram.now (answered result rounds.new (fraction numerator.new denominator.new)) }
 {
     let found = threshold::two_means(histogram);
     *rounds = found.rounds;

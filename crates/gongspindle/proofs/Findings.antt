@@ -7,20 +7,11 @@ use Rattle.records.specs.declared.Record.{Record}
 use Rattle.records.specs.declared.Record.TheVariants.{Picture as Record-as-Picture, Pixel as Record-as-Pixel}
 use Rattle.records.specs.Records.{RecordIs, Follows}
 use Rattle.records.proofs.Outcomes.{moves-on}
-use Rattle.records.proofs.Reading.{Before, none_yet, one_more}
+use Rattle.records.proofs.Reading.{Before, one_more}
 use Rattle.gongspindle.specs.declared.look.Said.{Said}
 use Rattle.gongspindle.specs.declared.look.Said.TheVariants.{Picture, Pixel}
 use Rattle.gongspindle.specs.declared.look.Found.TheVariants.{Good}
 use Rattle.gongspindle.specs.Program.{SaidIs, FoundIs}
-
--- so many good records lie before the offset, which is not past the greatest input
-pub record Passed (input : List ℕ) (at good : ℕ) : Type 0 where
-  pub before : Before input good at
-  pub no_more : good ≤ at
-  pub few : at ≤ 32768
-
-pub none_passed : (input : List ℕ) → Passed input 0 0
-none_passed input = record { before = none_yet input; no_more = omega arith; few = omega arith }
 
 module _ (input : List ℕ) (at : ℕ) where
   -- the record that a line is said of: the next one begins where it ends
@@ -28,14 +19,14 @@ module _ (input : List ℕ) (at : ℕ) where
   said_of (Picture side line) next is = (Record-as-Picture side is.0 next, (is.1.0, refl))
   said_of (Pixel size) next is = (Record-as-Pixel size next, (is, refl))
 
-  -- so past a good record one more lies before an offset, which is later
+  -- so past a good record one more lies before an offset, which is later and not past the greatest input
   pub record Onward (good next : ℕ) : Type 0 where
-    pub passed : Passed input next (good + 1)
+    pub one_more : Before input (good + 1) next
     pub later : at < next
+    pub few : next ≤ 32768
 
-  pub past-good : {good : ℕ} (said : Said) (next : ℕ) → Passed input at good → FoundIs input at (Good said next) → Onward good next
-  past-good said next so_far is =
+  pub past-good : {good : ℕ} (said : Said) (next : ℕ) → Before input good at → FoundIs input at (Good said next) → Onward good next
+  past-good said next before is =
       let of = said_of said next is in
       let on = moves-on input at of.0 next of.1.0 of.1.1 in
-      let more = one_more of.0 next so_far.before of.1.0 of.1.1 in
-      record { passed = record { before = more; no_more = omega arith; few = omega arith }; later = on.0 }
+      record { one_more = one_more of.0 next before of.1.0 of.1.1; later = on.0; few = omega arith }

@@ -17,8 +17,7 @@ use Rattle.judge.proofs.Outcomes.{when_measured}
 use Rattle.threshold.specs.declared.Threshold.{Threshold}
 use Rattle.threshold.specs.Histogram.{Countable, tally, Counted, CountIs}
 use Rattle.threshold.specs.TwoMeans.{TwoMeansIs}
-use Rattle.gongspindle.specs.Line.{LineIs}
-use Rattle.gongspindle.specs.inside.Square.{SquarePicture}
+use Rattle.gongspindle.specs.Line.{SquarePicture, LineIs}
 
 -- a side of 16 or 64 is in range and can be measured, and its square has room in 4,096 places
 pub record GoodSide (side : ℕ) : Type 0 where
@@ -33,14 +32,14 @@ good_side (inr e) = rw e (record { in_range = (lit≤ tt, lit≤ tt); measurable
 
 module _ (levels : List ℕ) (side : ℕ) (square : SquarePicture side levels) where
   abbrev F : GoodSide side
-  F = good_side square.side_is
+  F = good_side square.0
 
   -- so measuring refuses nothing
   measured : (output work : List ℕ) (r : Measurement) → 4096 ≡ length output → 4096 ≡ length work → MeasureIs levels side side output work r
       → Measured levels side side output work r
   measured output work r a b is =
       let few = F.few in
-      let shape : WellShaped (length levels) side side = record { sides = (F.in_range, F.in_range); all_levels = square.all_levels } in
+      let shape : WellShaped (length levels) side side = record { sides = (F.in_range, F.in_range); all_levels = square.1 } in
       when_measured levels side side output work r (record { shape = shape; long_output = omega arith; long_work = omega arith })
       (F.measurable, F.measurable) is
 
@@ -58,7 +57,7 @@ module _ (levels : List ℕ) (side : ℕ) (square : SquarePicture side levels) w
       -- the values that were counted are pass three
       values : take (length levels) o ≡ pass_three side side levels
       values =
-          ap (λ (n : ℕ). take n o) (square.all_levels ∙ sym m.filtered.long)
+          ap (λ (n : ℕ). take n o) (square.1 ∙ sym m.filtered.long)
           ∙ ap (take (length (pass_three side side levels))) m.filtered.is_pass_three
           ∙ take-append_seam (pass_three side side levels) (drop (side * side) output)
 

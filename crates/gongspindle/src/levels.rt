@@ -1,7 +1,6 @@
 // What the levels of a picture come to (document 01, "The program").
 ghost use Rattle.std.specs.Prelude.{◌≡◌, length};
-ghost use Rattle.gongspindle.specs.Line.{LineIs};
-ghost use Rattle.gongspindle.specs.inside.Square.{SquarePicture};
+ghost use Rattle.gongspindle.specs.Line.{SquarePicture, LineIs};
 
 use judge::Verdict;
 use threshold::Threshold;

@@ -19,8 +19,7 @@ use Rattle.judge.specs.Extremes.{bright, dark}
 use Rattle.judge.specs.Noise.{inner_pixels}
 use Rattle.judge.specs.Judge.{InRange, BrightInRange, DarkInRange, Reaches, RatioIs, refused, JudgeIs}
 use Rattle.judge.specs.Measure.{Judged, Measurement, Measured}
-use Rattle.judge.specs.AnnexA.{plus, times, squared, span, deviation_squared, AverageInRange, RatioFrom, RatioTen}
-use Rattle.judge.specs.AnnexA.{Unfit, Discarded, Exactly}
+use Rattle.judge.specs.AnnexA.{plus, times, squared, span, deviation_squared, AverageInRange, RatioFrom, RatioTen, Unfit, Discarded, Exactly}
 use Rattle.judge.proofs.Ratios.{reaches_falls}
 
 -- "So q is the ratio in hundredths": the document's inequality is the annex's for q/100
@@ -29,8 +28,7 @@ reaches_is N M m D q = (λ h. omega (arith, h), λ h. omega (arith, h))
 
 -- "rounded down": the ratio is q hundredths or more, and not q + 1; or it is below 0, and q is 0
 pub rounded_down : (N : ℕ) (M m : Eighths) (D q : ℕ) → RatioIs N (M.0 - m.0) D q
-    → (RatioFrom N M m D (fraction q 100) × (¬ RatioFrom N M m D (fraction (q + 1) 100)))
-    ⊎ (((k : ℕ) → ¬ RatioFrom N M m D (fraction k 100)) × (q ≡ 0))
+    → (RatioFrom N M m D (fraction q 100) × (¬ RatioFrom N M m D (fraction (q + 1) 100))) ⊎ (((k : ℕ) → ¬ RatioFrom N M m D (fraction k 100)) × (q ≡ 0))
 rounded_down N M m D q (inl g) = inl ((reaches_is N M m D q).0 g.holds, λ t. next_has_not g ((reaches_is N M m D (q + 1)).1 t))
 rounded_down N M m D q (inr n) = inr (λ k t. n.0 k ((reaches_is N M m D k).1 t), n.1)
 
@@ -49,8 +47,7 @@ module _ (N : ℕ) (M m : Eighths) (D : ℕ) (r s : Fraction) where
   pub below-deviation : 1 ≤ N → NotMore (squared s) (deviation_squared N D) → RatioFrom N M m D r → Plain
   below-deviation some below ratio = go (plus r (fraction 138 100)).numerator (plus r (fraction 138 100)).denominator ratio
     where
-      go : (a b : ℕ) → NotMore (times (squared (fraction a b)) (deviation_squared N D)) (squared (span M m))
-          → NotMore (times (fraction a b) s) (span M m)
+      go : (a b : ℕ) → NotMore (times (squared (fraction a b)) (deviation_squared N D)) (squared (span M m)) → NotMore (times (fraction a b) s) (span M m)
       go a b ratio =
           of_squares (le_of_mul-le-mul_right
           (omega (arith, mul-le-mul_left (a * a * 16384) below, mul-le-mul_right (s.denominator * s.denominator) ratio))
@@ -59,8 +56,7 @@ module _ (N : ℕ) (M m : Eighths) (D : ℕ) (r s : Fraction) where
   pub above-deviation : 1 ≤ s.denominator → NotMore (deviation_squared N D) (squared s) → Plain → RatioFrom N M m D r
   above-deviation some above plain = go (plus r (fraction 138 100)).numerator (plus r (fraction 138 100)).denominator plain
     where
-      go : (a b : ℕ) → NotMore (times (fraction a b) s) (span M m)
-          → NotMore (times (squared (fraction a b)) (deviation_squared N D)) (squared (span M m))
+      go : (a b : ℕ) → NotMore (times (fraction a b) s) (span M m) → NotMore (times (squared (fraction a b)) (deviation_squared N D)) (squared (span M m))
       go a b plain =
           le_of_mul-le-mul_right
           (omega (arith, mul-le-mul_left (a * a * 16384) above, mul-le-mul_right (64 * (N * N)) (mul-le-mul plain plain)))
@@ -105,8 +101,7 @@ module _ (N : ℕ) (M m : Eighths) (D : ℕ) (v : Verdict) (taken : InRange N M 
   fit b k d t (inr (inr (inl u))) = d u
   fit b k d t (inr (inr (inr u))) = u t
 
-  past-all-tests : BrightInRange M → DarkInRange m → ¬ (D ≡ 0) → Exactly (1000 ≤ v.ratio) (RatioTen N M m D)
-      → Unless (1000 ≤ v.ratio) (v.number ≡ 9) (v.number ≡ 0) → Agrees
+  past-all-tests : BrightInRange M → DarkInRange m → ¬ (D ≡ 0) → Exactly (1000 ≤ v.ratio) (RatioTen N M m D) → Unless (1000 ≤ v.ratio) (v.number ≡ 9) (v.number ≡ 0) → Agrees
   past-all-tests b k d ten (inl low) = inl (rw low.1 (lit≤ tt, lit≤ tt), inr (inr (inr (λ t. low.0 (ten.1 t)))))
   past-all-tests b k d ten (inr high) = inr (high.1, fit b k d (ten.0 high.0))
 
@@ -127,10 +122,8 @@ module _ (N : ℕ) (M m : Eighths) (D : ℕ) (v : Verdict) (taken : InRange N M 
 -- the same of a picture and what it was filtered to, whose numbers the judge always takes
 module _ (levels filtered : List ℕ) (w h : ℕ) (v : Verdict) (j : Judged levels filtered w h v) where
   pub judged-discarded-exactly :
-      Exactly (Discarded v.number) (Unfit (inner_pixels w h) (bright w h filtered) (dark w h filtered) j.spread)
-      × ((v.number ≡ 0) ⊎ Discarded v.number)
-  judged-discarded-exactly =
-      discarded-exactly (inner_pixels w h) (bright w h filtered) (dark w h filtered) j.spread v j.in_range j.verdict_is
+      Exactly (Discarded v.number) (Unfit (inner_pixels w h) (bright w h filtered) (dark w h filtered) j.spread) × ((v.number ≡ 0) ⊎ Discarded v.number)
+  judged-discarded-exactly = discarded-exactly (inner_pixels w h) (bright w h filtered) (dark w h filtered) j.spread v j.in_range j.verdict_is
 
   -- its number is never 15
   pub never-fifteen : ¬ (v.number ≡ 15)
@@ -144,9 +137,7 @@ module _ (levels : List ℕ) (w h : ℕ) (output work : List ℕ) (r : Measureme
   abbrev filtered : List ℕ
   filtered = pass_three w h levels
 
-  pub measured-discarded-exactly :
-      Exactly (Discarded number) (Unfit (inner_pixels w h) (bright w h filtered) (dark w h filtered) d.judged.spread)
-      × ((number ≡ 0) ⊎ Discarded number)
+  pub measured-discarded-exactly : Exactly (Discarded number) (Unfit (inner_pixels w h) (bright w h filtered) (dark w h filtered) d.judged.spread) × ((number ≡ 0) ⊎ Discarded number)
   measured-discarded-exactly = judged-discarded-exactly levels filtered w h r.verdict d.judged
 
   pub measured-never-fifteen : ¬ (number ≡ 15)

@@ -11,7 +11,6 @@ use lib.ListN.{length, get_or, take, drop, length-take, length-drop}
 use Rattle.arithmetic.proofs.Order.{row_end}
 use Rattle.arithmetic.proofs.Lists.{length_joined, joined_at, part_at}
 use Rattle.judge.specs.Extremes.{maximum, minimum, tile}
-use Rattle.judge.proofs.Maxima.{least_first}
 
 -- v is an element
 abbrev pub In : ℕ → List ℕ → Type 0
@@ -28,7 +27,11 @@ most_over a [] k = zero-le
 most_over a (x ∷ l) zero = omega (arith, most_first (max a x) l)
 most_over a (x ∷ l) (suc k) = most_over (max a x) l k
 
--- with `min`: neither is less (of a it is `least_first`)
+-- with `min`: neither is less
+least_first : (a : ℕ) (l : List ℕ) → foldl min a l ≤ a
+least_first a [] = omega arith
+least_first a (x ∷ l) = omega (arith, least_first (min a x) l)
+
 least_under : (a : ℕ) (l : List ℕ) (k : ℕ) → k < length l → foldl min a l ≤ get_or l k 0
 least_under a [] k p = absurd (let z : ⊥ = omega arith in z)
 least_under a (x ∷ l) zero p = omega (arith, least_first (min a x) l)
@@ -98,8 +101,7 @@ module _ (w h : ℕ) (x : List ℕ) (b a : ℕ) (whole : length x ≡ w * h) (ro
   length-tile = length_joined (h / 4) (w / 4) _ length-tile-row
 
   -- the pixel in its row j and column i is the picture's in row b·(h/4) + j and column a·(w/4) + i
-  pub tile-at : (j i : ℕ) → j < h / 4 → i < w / 4
-      → get_or (tile w h x b a) (j * (w / 4) + i) 0 ≡ get_or x ((b * (h / 4) + j) * w + (a * (w / 4) + i)) 0
+  pub tile-at : (j i : ℕ) → j < h / 4 → i < w / 4 → get_or (tile w h x b a) (j * (w / 4) + i) 0 ≡ get_or x ((b * (h / 4) + j) * w + (a * (w / 4) + i)) 0
   unfolding tile
   tile-at j i p q =
       joined_at (h / 4) (w / 4) _ length-tile-row j i p q
@@ -107,21 +109,18 @@ module _ (w h : ℕ) (x : List ℕ) (b a : ℕ) (whole : length x ≡ w * h) (ro
       ∙ ap (λ (k : ℕ). get_or x k 0) (omega arith)
 
 -- every pixel of a picture whose sides are multiples of 4 lies in a tile, so that none is left out
-module _ (w h : ℕ) (x : List ℕ) (whole : length x ≡ w * h) (fours : (w % 4 ≡ 0) × (h % 4 ≡ 0))
-    (row column : ℕ) (inside : (row < h) × (column < w)) where
+module _ (w h : ℕ) (x : List ℕ) (whole : length x ≡ w * h) (fours : (w % 4 ≡ 0) × (h % 4 ≡ 0)) (row column : ℕ) (inside : (row < h) × (column < w)) where
   -- which quarter of n a place lies in
   quarter : (n k : ℕ) → n % 4 ≡ 0 → k < n → (0 < n / 4) × (k / (n / 4) < 4)
   quarter n k four less =
       let some : 0 < n / 4 = omega arith in
       (some, (div-lt_iff_lt-mul some).1 (omega arith))
 
-  pub in-a-tile : get_or (tile w h x (row / (h / 4)) (column / (w / 4))) (row % (h / 4) * (w / 4) + column % (w / 4)) 0
-      ≡ get_or x (row * w + column) 0
+  pub in-a-tile : get_or (tile w h x (row / (h / 4)) (column / (w / 4))) (row % (h / 4) * (w / 4) + column % (w / 4)) 0 ≡ get_or x (row * w + column) 0
   in-a-tile =
       let down = quarter h row fours.1 inside.0 in
       let across = quarter w column fours.0 inside.1 in
       let here : row / (h / 4) * (h / 4) + row % (h / 4) ≡ row = div-add-mod' row (h / 4) in
       let there : column / (w / 4) * (w / 4) + column % (w / 4) ≡ column = div-add-mod' column (w / 4) in
-      tile-at w h x (row / (h / 4)) (column / (w / 4)) whole down.1 across.1
-      (row % (h / 4)) (column % (w / 4)) (mod-lt row down.0) (mod-lt column across.0)
+      tile-at w h x (row / (h / 4)) (column / (w / 4)) whole down.1 across.1 (row % (h / 4)) (column % (w / 4)) (mod-lt row down.0) (mod-lt column across.0)
       ∙ rw (here, there)

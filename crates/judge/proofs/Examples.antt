@@ -37,7 +37,7 @@ row N M m D n q = record { count = N; bright = M; dark = m; spread = D; number =
 module _ (N M m D n q : ℕ) where
   in_range : Dec (InRange N (eighths M) (eighths m) D)
   in_range = elim (Dec.and (dec_le 1 N) (Dec.and (dec_le N 1048576) (Dec.and (dec_le M 32640) (Dec.and (dec_le m 32640) (dec_le D (2 ^ 62)))))) [
-    | yes (a, (b, (c, (d, e)))) ↦ yes (record { count_low = a; count_high = b; bright_high = c; dark_high = d; spread_high = e })
+    | yes p ↦ yes (record { count_low = p.0; count_high = p.1.0; bright_high = p.1.1.0; dark_high = p.1.1.1.0; spread_high = p.1.1.1.1 })
     | no f ↦ no (λ r. f (r.count_low, (r.count_high, (r.bright_high, (r.dark_high, r.spread_high)))))
   ]
 
@@ -53,8 +53,7 @@ module _ (N M m D n q : ℕ) where
   rated : Option (Rated N (eighths M) (eighths m) D (verdict n q))
   rated = elim (Dec.and (dec_le (left q) right) (dec_lt right (left (q + 1)))) [
     | yes p ↦
-        let ratio = by_neighbours (reaches_falls N (M - m) D) p.0 (not-le_of_lt p.1) in
-        map (λ number. record { ratio = inl ratio; number = number })
+        map (λ number. record { ratio = inl (by_neighbours (reaches_falls N (M - m) D) p.0 (not-le_of_lt p.1)); number = number })
         (unless (dec_le 1000 q) (when (ℕ_discrete n 9)) (when (ℕ_discrete n 0)))
     | no f ↦ none
   ]
@@ -69,14 +68,12 @@ module _ (N M m D n q : ℕ) where
 
 -- what a row gives to the judge has the row's verdict, and no other
 abbrev pub Holds : Row → Type 0
-Holds r =
-    (v : Verdict) → JudgeIs r.count (eighths r.bright) (eighths r.dark) r.spread v → v ≡ verdict r.number r.ratio
+Holds r = (v : Verdict) → JudgeIs r.count (eighths r.bright) (eighths r.dark) r.spread v → v ≡ verdict r.number r.ratio
 
 unfoldable pub holds : (r : Row) → Option (Holds r)
 unfolding dec_le dec_lt ℕ_discrete Dec.and Dec.not when unless in_range back rated permitted
 holds r =
-    map
-    (λ p v is. one-judge r.count (eighths r.bright) (eighths r.dark) r.spread v (verdict r.number r.ratio) is p)
+    map (λ p v is. one-judge r.count (eighths r.bright) (eighths r.dark) r.spread v (verdict r.number r.ratio) is p)
     (permitted r.count r.bright r.dark r.spread r.number r.ratio)
 
 -- N, M, m and D, then the number and q: the greatest q that is discarded; one that comes out otherwise where products wrap at 64
@@ -107,8 +104,7 @@ values =
     1 ∷ 2 ∷ 3 ∷ 4 ∷ 5 ∷ 6 ∷ 7 ∷ 8 ∷ 9 ∷ 10 ∷ 11 ∷ 12 ∷ 13 ∷ 14 ∷ 15 ∷ 16 ∷
     17 ∷ 18 ∷ 19 ∷ 20 ∷ 21 ∷ 22 ∷ 23 ∷ 24 ∷ 25 ∷ 26 ∷ 27 ∷ 28 ∷ 29 ∷ 30 ∷ 31 ∷ 32 ∷ []
 
-pub tiles : (over_tiles maximum 8 4 values ≡ 272) × (over_tiles minimum 8 4 values ≡ 256)
-    × (over_tiles maximum 4 8 values ≡ 296) × (over_tiles minimum 4 8 values ≡ 232)
+pub tiles : (over_tiles maximum 8 4 values ≡ 272) × (over_tiles minimum 8 4 values ≡ 256) × (over_tiles maximum 4 8 values ≡ 296) × (over_tiles minimum 4 8 values ≡ 232)
 unfolding joined sum maximum minimum tile over_tiles
 tiles = (refl, refl, refl, refl)
 

@@ -10,8 +10,10 @@ use lib.Dec.{leb, ltb}
 use Rattle.arithmetic.specs.Sums.{sum, sum_over}
 use Rattle.arithmetic.proofs.Order.{le_or_lt}
 use Rattle.arithmetic.proofs.Sums.{sum_none, sum_same, sum_equal, sum_parts, sum_by_rows}
+use Rattle.picture.specs.Picture.{Side}
 use Rattle.judge.specs.Noise.{outermost, counts, inner_pixels}
-use Rattle.judge.specs.inside.Asked.{inner_place, Measurable}
+use Rattle.judge.specs.Measure.{MeasurableSide}
+use Rattle.judge.specs.Asked.{inner_place}
 use Rattle.judge.specs.AnnexA.{Exactly}
 
 -- where neither of two is so
@@ -82,8 +84,7 @@ sum_within n f = ⊎_elim few many (le_or_lt n 6)
     few : n ≤ 6 → sum n kept ≡ sum (n - 6) (λ k. f (k + 3))
     few h =
         let none : n - 6 ≡ 0 = omega arith in
-        let last : (k : ℕ) → 3 ≤ k → outermost n k ≡ true = λ k g. last_three n k (omega arith) in
-        let out : (k : ℕ) → k < n → kept k ≡ 0 = λ k l. nothing k (⊎_elim (last k) (first_three n k) (le_or_lt 3 k)) in
+        let out : (k : ℕ) → k < n → kept k ≡ 0 = λ k l. nothing k (⊎_elim (λ (g : 3 ≤ k). last_three n k (omega arith)) (first_three n k) (le_or_lt 3 k)) in
         rw (none, sum_none (λ k. f (k + 3))) (sum_equal 0 n kept out ∙ mul-zero n)
 
     -- of more, three at either end
@@ -100,11 +101,9 @@ sum_within n f = ⊎_elim few many (le_or_lt n 6)
 -- a sum over the pixels that count
 module _ (w h : ℕ) (f : ℕ → ℕ) where
   -- one row of the picture: nothing where it is left out, else what is within it
-  row_within : (j : ℕ)
-      → sum w (λ i. cond (counts w h (j * w + i)) (f (j * w + i)) 0) ≡ cond (outermost h j) 0 (sum (w - 6) (λ i. f (j * w + (i + 3))))
+  row_within : (j : ℕ) → sum w (λ i. cond (counts w h (j * w + i)) (f (j * w + i)) 0) ≡ cond (outermost h j) 0 (sum (w - 6) (λ i. f (j * w + (i + 3))))
   row_within j =
-      sum_same w _ (λ i. cond (outermost h j) 0 (cond (outermost w i) 0 (f (j * w + i))))
-      (λ i l. rw (counts-at w h i j l) (both (outermost h j) (outermost w i) (f (j * w + i))))
+      sum_same w _ (λ i. cond (outermost h j) 0 (cond (outermost w i) 0 (f (j * w + i)))) (λ i l. rw (counts-at w h i j l) (both (outermost h j) (outermost w i) (f (j * w + i))))
       ∙ whole (outermost h j)
     where
       both : (a b : Bool) (v : ℕ) → cond (not (a || b)) v 0 ≡ cond a 0 (cond b 0 v)
@@ -112,8 +111,7 @@ module _ (w h : ℕ) (f : ℕ → ℕ) where
       both false true v = refl
       both false false v = refl
 
-      whole : (b : Bool)
-          → sum w (λ i. cond b 0 (cond (outermost w i) 0 (f (j * w + i)))) ≡ cond b 0 (sum (w - 6) (λ i. f (j * w + (i + 3))))
+      whole : (b : Bool) → sum w (λ i. cond b 0 (cond (outermost w i) 0 (f (j * w + i)))) ≡ cond b 0 (sum (w - 6) (λ i. f (j * w + (i + 3))))
       whole true = sum_equal 0 w (λ i. 0) (λ i l. refl) ∙ mul-zero w
       whole false = sum_within w (λ i. f (j * w + i))
 
@@ -131,8 +129,7 @@ module _ (w h : ℕ) (f : ℕ → ℕ) where
   pub over-inner : sum_over (w * h) (counts w h) f ≡ sum (inner_pixels w h) (λ k. f (inner_place w k))
   over-inner =
       by-rows-and-columns
-      ∙ sum_same (h - 6) _ (λ j. sum (w - 6) (λ i. f (inner_place w (j * (w - 6) + i))))
-      (λ j l. sum_same (w - 6) _ _ (λ i g. ap f (sym (place_is w i j g))))
+      ∙ sum_same (h - 6) _ (λ j. sum (w - 6) (λ i. f (inner_place w (j * (w - 6) + i)))) (λ j l. sum_same (w - 6) _ _ (λ i g. ap f (sym (place_is w i j g))))
       ∙ sym (sum_by_rows (h - 6) (w - 6) (λ k. f (inner_place w k)))
       ∙ ap (λ (n : ℕ). sum n (λ k. f (inner_place w k))) (mul_comm (h - 6) (w - 6))
 
@@ -140,16 +137,16 @@ module _ (w h : ℕ) (f : ℕ → ℕ) where
 pub as_many : (w h : ℕ) → sum_over (w * h) (counts w h) (λ k. 1) ≡ inner_pixels w h
 as_many w h = over-inner w h (λ k. 1) ∙ sum_equal 1 (inner_pixels w h) (λ k. 1) (λ k l. refl) ∙ mul-one (inner_pixels w h)
 
--- a picture that can be measured has some, and no more than a picture has pixels
-module _ {w h : ℕ} (size : Measurable w h) where
-  pub some-inner : 1 ≤ inner_pixels w h
-  some-inner =
-      let columns : 1 ≤ w - 6 = omega (arith, size.measurable) in
-      let rows : 1 ≤ h - 6 = omega (arith, size.measurable) in
-      omega (arith, mul-le-mul columns rows)
+-- a picture that can be measured has some
+pub some_inner : (w h : ℕ) → MeasurableSide w × MeasurableSide h → 1 ≤ inner_pixels w h
+some_inner w h sides =
+    let columns : 1 ≤ w - 6 = omega arith in
+    let rows : 1 ≤ h - 6 = omega arith in
+    omega (arith, mul-le-mul columns rows)
 
-  pub few-inner : inner_pixels w h ≤ 1048576
-  few-inner =
-      let columns : w - 6 ≤ 1024 = omega (arith, size.sides) in
-      let rows : h - 6 ≤ 1024 = omega (arith, size.sides) in
-      omega (arith, mul-le-mul columns rows)
+-- and no more than a picture has pixels
+pub few_inner : (w h : ℕ) → Side w × Side h → inner_pixels w h ≤ 1048576
+few_inner w h sides =
+    let columns : w - 6 ≤ 1024 = omega arith in
+    let rows : h - 6 ≤ 1024 = omega arith in
+    omega (arith, mul-le-mul columns rows)

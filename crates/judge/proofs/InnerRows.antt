@@ -2,46 +2,39 @@
 use mathlib.Core.Path.{◌≡◌, ap, ◌∙◌}
 use mathlib.Core.List.{List}
 use Prim.Native.Nat.{ℕ, ◌+◌, ◌-◌, ◌*◌, ◌<◌, ◌≤◌}
-use native.Mathlib.Nat.{zero-mul, one-mul, add-mul, mul_comm, mul-le-mul_right, le_antisymm}
+use native.Mathlib.Nat.{zero-mul, one-mul, add-mul, mul_comm, mul-le-mul_right}
 use native.Mathlib.Omega.{arith}
 use lib.ListN.{length, get_or, take, drop, length-take, length-drop}
 use Rattle.arithmetic.proofs.Order.{row_end}
 use Rattle.arithmetic.proofs.Lists.{part_at, most_take, most_drop}
 use Rattle.picture.proofs.Shapes.{pixels}
-use Rattle.judge.specs.inside.Asked.{Pictured, SamePixels, dist, inner_place, Sums, RowSums}
-use Rattle.judge.proofs.Inner.{place_is, few-inner}
-use Rattle.judge.proofs.Spreads.{light_at, flat_at, sums_none, sums_joined, Summed}
+use Rattle.judge.specs.Noise.{inner_pixels}
+use Rattle.judge.specs.Asked.{Tiled, SamePixels, light, flat, inner_place, Sums}
+use Rattle.judge.proofs.Inner.{place_is, few_inner}
+use Rattle.judge.proofs.Spreads.{light_at, flat_at, sums_none, sums-joined}
 
 -- what the loop knows after j rows
-pub record Rows (w h : ℕ) (levels filtered : List ℕ) (squares lights flats at j : ℕ) : Type 0 where
-  pub few : j ≤ h - 6
+pub record Rows (w : ℕ) (levels filtered : List ℕ) (squares lights flats at j : ℕ) : Type 0 where
   pub at_is : at ≡ 3 * w + 3 + j * w
   pub sums : Sums (light_at w levels) (flat_at w filtered) (j * (w - 6)) squares lights flats
 
-pub rows_none : {w h : ℕ} {levels filtered : List ℕ} → Rows w h levels filtered 0 0 0 (3 * w + 3) 0
-rows_none {w} {h} {levels} {filtered} =
-    record {
-      few = omega arith;
-      at_is = omega arith;
-      sums = rw (zero-mul (w - 6)) sums_none;
-    }
+pub rows_none : (w : ℕ) (levels filtered : List ℕ) → Rows w levels filtered 0 0 0 (3 * w + 3) 0
+rows_none w levels filtered = record { at_is = omega arith; sums = rw (zero-mul (w - 6)) (sums_none (light_at w levels) (flat_at w filtered)) }
 
-module _ {w h : ℕ} {levels filtered : List ℕ} {squares lights flats at j : ℕ} (p : Pictured w h levels filtered)
-    (s : Rows w h levels filtered squares lights flats at j) where
+module _ (w h : ℕ) (levels filtered : List ℕ) (t : Tiled w h filtered) (all : length levels ≡ w * h) {squares lights flats at j : ℕ}
+    (s : Rows w levels filtered squares lights flats at j) where
   -- the sums so far have room
-  pub rooms : (squares ≤ 4363753881600) × (lights ≤ 2139095040) × (flats ≤ 2139095040)
-  rooms =
-      let inner = few-inner p.tiled.size in
-      let few : j * (w - 6) ≤ 1048576 = omega (arith, mul-le-mul_right (w - 6) s.few, mul_comm (w - 6) (h - 6)) in
-      let sums = s.sums in
-      (omega (arith, sums.of_squares), omega (arith, sums.of_lights), omega (arith, sums.of_flats))
+  pub rooms : j ≤ h - 6 → (squares ≤ 4363753881600) × (lights ≤ 2139095040) × (flats ≤ 2139095040)
+  rooms up =
+      let few : j * (w - 6) ≤ 1048576 = omega (arith, mul-le-mul_right (w - 6) up, few_inner w h t.sides, mul_comm (w - 6) (h - 6)) in
+      (omega (arith, s.sums.squares_most), omega (arith, s.sums.lights_most), omega (arith, s.sums.flats_most))
 
   module _ (here : j < h - 6) where
     -- the next row lies in the picture
     pub inside : (at + (w - 6) ≤ w * h) × (w * h ≤ 1048576)
     inside =
-        let size = p.tiled.size in
-        (omega (arith, size.measurable, s.at_is, row_end w h (j + 3) (omega arith), add-mul j 3 w), pixels w h size.sides)
+        let wide = t.measurable in
+        (omega (arith, s.at_is, row_end w h (j + 3) (omega arith), add-mul j 3 w), pixels w h t.sides)
 
     abbrev end : ℕ
     end = at + (w - 6)
@@ -55,11 +48,11 @@ module _ {w h : ℕ} {levels filtered : List ℕ} {squares lights flats at j : �
     -- it has as many levels as filtered values, and at most 1,024
     pub row-pair : SamePixels (row levels) (row filtered)
     row-pair =
-        let sides = p.tiled.size.sides in
+        let sides = t.sides in
         record {
-          same = omega (arith, long levels p.all_levels, long filtered p.tiled.whole);
-          long = omega (arith, long filtered p.tiled.whole);
-          small = most_take 2040 (end - at) (drop at filtered) (most_drop 2040 at filtered p.tiled.small);
+          same = omega (arith, long levels all, long filtered t.whole);
+          long = omega (arith, long filtered t.whole);
+          small = most_take 2040 (end - at) (drop at filtered) (most_drop 2040 at filtered t.small);
         }
 
     -- its pixels are the next that count
@@ -70,23 +63,17 @@ module _ {w h : ℕ} {levels filtered : List ℕ} {squares lights flats at j : �
         part_at at (end - at) l k (omega arith) ∙ ap (λ (p : ℕ). get_or l p 0) place
 
     -- so its sums are added to those of the rows before it
-    pub rows_more : {a b c : ℕ} → RowSums (row levels) (row filtered) a b c
-        → Rows w h levels filtered (squares + a) (lights + b) (flats + c) (at + w) (j + 1)
+    pub rows_more : {a b c : ℕ} → Sums (light (row levels)) (flat (row filtered)) (length (row filtered)) a b c
+        → Rows w levels filtered (squares + a) (lights + b) (flats + c) (at + w) (j + 1)
     rows_more {a} {b} {c} q =
         record {
-          few = omega arith;
           at_is = omega (arith, s.at_is, add-mul j 1 w);
           sums =
               rw (add-mul j 1 (w - 6), one-mul (w - 6))
-              (sums_joined (λ k g. ap (λ (v : ℕ). 8 * v) (next levels k g)) (next filtered) s.sums
-              (rw (long filtered p.tiled.whole) at q));
+              (sums-joined (light_at w levels) (flat_at w filtered) (light (row levels)) (flat (row filtered)) (j * (w - 6)) (w - 6)
+              (λ k g. ap (λ (v : ℕ). 8 * v) (next levels k g)) (next filtered) s.sums (rw (long filtered t.whole) at q));
         }
 
   -- past the last row they are the sums of all N
-  pub rows_all : {away : ℕ} → h - 6 ≤ j → away ≡ dist lights flats → Summed w h levels filtered squares lights flats away
-  rows_all all apart =
-      record {
-        sums = rw (← mul_comm (h - 6) (w - 6), ← le_antisymm s.few all) s.sums;
-        few = few-inner p.tiled.size;
-        apart = apart;
-      }
+  pub rows_all : j ≡ h - 6 → Sums (light_at w levels) (flat_at w filtered) (inner_pixels w h) squares lights flats
+  rows_all e = rw (← mul_comm (h - 6) (w - 6), ← e) s.sums

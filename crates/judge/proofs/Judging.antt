@@ -3,21 +3,22 @@
 use mathlib.Core.Path.{◌≡◌, ap, ◌∙◌}
 use mathlib.Core.List.{List}
 use mathlib.Core.Logic.{inl, inr}
-use Prim.Native.Nat.{ℕ, ◌-◌, ◌≤◌}
+use Prim.Native.Nat.{ℕ, ◌-◌, ◌^◌, ◌≤◌}
 use native.Mathlib.Omega.{arith}
+use lib.IntN.{pos}
 use Rattle.answers.specs.Refusals.{Unless}
 use Rattle.answers.proofs.Refusals.{goes_on, carried}
 use Rattle.units.specs.Units.{eighths}
 use Rattle.units.specs.declared.Eighths.{Eighths}
 use Rattle.judge.specs.declared.Verdict.{Verdict}
 use Rattle.judge.specs.Extremes.{maximum, minimum, bright, dark}
-use Rattle.judge.specs.Noise.{inner_pixels}
-use Rattle.judge.specs.Judge.{InRange, BrightInRange, DarkInRange, RatioIs, Tested, verdict, refused, JudgeIs}
+use Rattle.judge.specs.Noise.{inner_pixels, spread_of}
+use Rattle.judge.specs.Judge.{InRange, BrightInRange, DarkInRange, RatioIs, Tested, refused, JudgeIs}
 use Rattle.judge.specs.Measure.{Judged}
-use Rattle.judge.specs.inside.Asked.{Tiled, ExtremesAre, SpreadIs}
+use Rattle.judge.specs.Asked.{Tiled}
 use Rattle.judge.proofs.Maxima.{maximum_most, minimum_most}
 use Rattle.judge.proofs.Tiles.{tiles-most}
-use Rattle.judge.proofs.Inner.{some-inner, few-inner}
+use Rattle.judge.proofs.Inner.{some_inner, few_inner}
 
 -- no test stops the judge
 pub record Past (N : ℕ) (M m : Eighths) (D : ℕ) : Type 0 where
@@ -26,19 +27,15 @@ pub record Past (N : ℕ) (M m : Eighths) (D : ℕ) : Type 0 where
   pub dark_in : DarkInRange m
   pub some : ¬ (D ≡ 0)
 
--- the number n that the tests come to, with M and m as they are given them
-pub record Ranged (N : ℕ) (M m : Eighths) (D high low n : ℕ) : Type 0 where
-  pub is_high : high ≡ M.0
-  pub is_low : low ≡ m.0
-  pub tested : Tested N (eighths high) (eighths low) D (λ k. n ≡ k) (n ≡ 0)
-
-module _ {N : ℕ} {M m : Eighths} {D high low n : ℕ} (ranged : Ranged N M m D high low n) where
+-- M and m as the tests are given them, and the number that they come to
+module _ (N : ℕ) (M m : Eighths) (D high low n : ℕ) (is-high : high ≡ M.0) (is-low : low ≡ m.0)
+    (tested : Tested N (eighths high) (eighths low) D (λ k. n ≡ k) (n ≡ 0)) where
   same : Tested N M m D (λ k. n ≡ k) (n ≡ 0)
-  same = rw (ranged.is_high, ranged.is_low) at ranged.tested
+  same = rw (is-high, is-low) at tested
 
   -- where it is not 0, it is the verdict's
-  pub stopped : {v : Verdict} → ¬ (n ≡ 0) → v ≡ refused n → JudgeIs N M m D v
-  stopped {v} some is = carried back (carried back (carried back (carried back (λ z. absurd (some z))))) same
+  pub stopped : (v : Verdict) → ¬ (n ≡ 0) → v ≡ refused n → JudgeIs N M m D v
+  stopped v some is = carried back (carried back (carried back (carried back (λ z. absurd (some z))))) same
     where
       back : {k : ℕ} → n ≡ k → v ≡ refused k
       back e = is ∙ ap refused e
@@ -58,30 +55,23 @@ module _ {N : ℕ} {M m : Eighths} {D high low n : ℕ} (ranged : Ranged N M m D
       go (inr (t, inr (b, inr (d, inr (s, _))))) = record { taken = t; bright_in = b; dark_in = d; some = s }
 
   -- and the ratio decides
-  pub decided : {k q : ℕ} → n ≡ 0 → RatioIs N (high - low) D q → Unless (1000 ≤ q) (k ≡ 9) (k ≡ 0) → JudgeIs N M m D (verdict k q)
-  decided z ratio number =
+  pub decided : (v : Verdict) → n ≡ 0 → RatioIs N (high - low) D v.ratio → Unless (1000 ≤ v.ratio) (v.number ≡ 9) (v.number ≡ 0) → JudgeIs N M m D v
+  decided v z ratio number =
       let p = passed z in
-      goes_on p.taken (goes_on p.bright_in (goes_on p.dark_in (goes_on p.some
-      (record { ratio = rw (ranged.is_high, ranged.is_low) at ratio; number = number }))))
+      goes_on p.taken (goes_on p.bright_in (goes_on p.dark_in (goes_on p.some (record { ratio = rw (is-high, is-low) at ratio; number = number }))))
 
 -- a picture's own numbers are what the judge takes, and its verdict on them is the picture's
-module _ {levels x : List ℕ} {w h D : ℕ} (t : Tiled w h x) (spread : SpreadIs w h levels x D) where
+module _ (levels x : List ℕ) (w h : ℕ) (t : Tiled w h x) (D : ℕ) (spread_is : pos D ≡ spread_of w h levels x) (small : D ≤ 2 ^ 62) where
   taken : InRange (inner_pixels w h) (bright w h x) (dark w h x) D
   taken =
       record {
-        count_low = some-inner t.size;
-        count_high = few-inner t.size;
+        count_low = some_inner w h t.measurable;
+        count_high = few_inner w h t.sides;
         bright_high = tiles-most w h x maximum 2040 (maximum_most 2040) t.small;
         dark_high = tiles-most w h x minimum 2040 (minimum_most 2040) t.small;
-        spread_high = spread.most;
+        spread_high = small;
       }
 
-  pub judged : {N : ℕ} {M m : Eighths} {v : Verdict} → N ≡ inner_pixels w h → ExtremesAre w h x M m → JudgeIs N M m D v
-      → Judged levels x w h v
-  judged count extremes is =
-      record {
-        spread = D;
-        spread_is = spread.is;
-        in_range = taken;
-        verdict_is = rw (count, extremes.bright_is, extremes.dark_is) at is;
-      }
+  pub judged : (N : ℕ) (M m : Eighths) (v : Verdict) → N ≡ inner_pixels w h → M ≡ bright w h x → m ≡ dark w h x → JudgeIs N M m D v → Judged levels x w h v
+  judged N M m v count is-bright is-dark is =
+      record { spread = D; spread_is = spread_is; in_range = taken; verdict_is = rw (count, is-bright, is-dark) at is }

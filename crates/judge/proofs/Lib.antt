@@ -1,5 +1,4 @@
 pub mod Maxima
-pub mod Adding
 pub mod Tiles
 pub mod Inner
 pub mod Spreads

@@ -12,62 +12,36 @@ use Rattle.filter.proofs.Outcomes.{Fits, when-fits}
 use Rattle.judge.specs.declared.Verdict.{Verdict}
 use Rattle.judge.specs.Judge.{refused}
 use Rattle.judge.specs.Measure.{MeasurableSide, Judged, Measurement, measurement, Measured, MeasureIs}
-use Rattle.judge.specs.inside.Asked.{Pictured}
-
--- what measuring promises of a verdict that leaves both buffers as they were
-abbrev Untouched : List ℕ → ℕ → ℕ → List ℕ → List ℕ → Verdict → Type 0
-Untouched levels w h output work v = MeasureIs levels w h output work (measurement v output work)
+use Rattle.judge.specs.Asked.{Tiled}
 
 module _ (levels : List ℕ) (w h : ℕ) (output work : List ℕ) where
   -- a call refused for its sizes: the number, and nothing written
-  pub refused-for-sizes : (n : ℕ) {v : Verdict} → ¬ (n ≡ 0) → v ≡ refused n
-      → Sized (length levels) w h (length output) (length work) (λ k. n ≡ k) (n ≡ 0) → Untouched levels w h output work v
-  refused-for-sizes n {v} some is = carried back (carried back (carried back (carried back (λ z. absurd (some z)))))
+  pub refused-for-sizes : (n : ℕ) (v : Verdict) → ¬ (n ≡ 0) → v ≡ refused n → Sized (length levels) w h (length output) (length work) (λ k. n ≡ k) (n ≡ 0)
+      → MeasureIs levels w h output work (measurement v output work)
+  refused-for-sizes n v some is = carried back (carried back (carried back (carried back (λ z. absurd (some z)))))
     where
       back : {k : ℕ} → n ≡ k → measurement v output work ≡ measurement (refused k) output work
       back e = ap (λ (u : Verdict). measurement u output work) (is ∙ ap refused e)
 
   module _ (f : Fits (length levels) w h (length output) (length work)) where
     -- past the sizes
-    fitting : (r : Measurement)
-        → Unless (MeasurableSide w × MeasurableSide h) (r ≡ measurement (refused 5) output work) (Measured levels w h output work r)
-        → MeasureIs levels w h output work r
+    fitting : (r : Measurement) → Unless (MeasurableSide w × MeasurableSide h) (r ≡ measurement (refused 5) output work) (Measured levels w h output work r) → MeasureIs levels w h output work r
     fitting r rest = passes_both f.shape (goes_on f.long_output (goes_on f.long_work rest))
 
     -- a side that cannot be measured
-    pub refused-by-five : {v : Verdict} → ¬ (MeasurableSide w × MeasurableSide h) → v ≡ refused 5
-        → Untouched levels w h output work v
-    refused-by-five {v} not is = fitting (measurement v output work) (stops not (ap (λ (u : Verdict). measurement u output work) is))
+    pub refused-by-five : (v : Verdict) → ¬ (MeasurableSide w × MeasurableSide h) → v ≡ refused 5 → MeasureIs levels w h output work (measurement v output work)
+    refused-by-five v not is = fitting (measurement v output work) (stops not (ap (λ (u : Verdict). measurement u output work) is))
 
--- a picture whose sizes fit and whose sides can be measured, and what filtering it gave back and left
-pub record Ready (levels : List ℕ) (w h : ℕ) (output work : List ℕ) (n : ℕ) (output' work' : List ℕ) : Type 0 where
-  pub fits : Fits (length levels) w h (length output) (length work)
-  pub sides : MeasurableSide w × MeasurableSide h
-  pub promise : FilterIs levels w h output work (outcome n output' work')
+    -- a picture that is filtered: its output starts with pass three, which can be cut into tiles
+    module _ (sides : MeasurableSide w × MeasurableSide h) (n : ℕ) (output' work' : List ℕ) (promise : FilterIs levels w h output work (outcome n output' work')) where
+      filtered : Filtered levels w h output work (outcome n output' work')
+      filtered = when-fits levels w h output work (outcome n output' work') f promise
 
--- its output starts with pass three, which can be cut into tiles
-module _ {levels : List ℕ} {w h : ℕ} {output work : List ℕ} {n : ℕ} {output' work' : List ℕ}
-    (r : Ready levels w h output work n output' work') where
-  filtered : Filtered levels w h output work (outcome n output' work')
-  filtered = when-fits levels w h output work (outcome n output' work') r.fits r.promise
+      starts : take (w * h) output' ≡ pass_three w h levels
+      starts = ap (take (w * h)) filtered.is_pass_three ∙ take_at (pass_three w h levels) (drop (w * h) output) (w * h) filtered.long
 
-  starts : take (w * h) output' ≡ pass_three w h levels
-  starts = ap (take (w * h)) filtered.is_pass_three ∙ take_at (pass_three w h levels) (drop (w * h) output) (w * h) filtered.long
+      pub tiled : Tiled w h (take (w * h) output')
+      tiled = rw starts (record { sides = f.shape.sides; measurable = sides; whole = filtered.long; small = filtered.most })
 
-  pub pictured : Pictured w h levels (take (w * h) output')
-  pictured =
-      rw starts
-      (record {
-        tiled =
-            record {
-              size = record { sides = r.fits.shape.sides; measurable = r.sides };
-              whole = filtered.long;
-              small = filtered.most;
-            };
-        all_levels = r.fits.shape.all_levels;
-      })
-
-  pub done : {v : Verdict} → Judged levels (take (w * h) output') w h v → MeasureIs levels w h output work (measurement v output' work')
-  done {v} j =
-      fitting levels w h output work r.fits (measurement v output' work')
-      (goes_on r.sides (record { filtered = rw filtered.number at filtered; judged = rw starts at j }))
+      pub done : (v : Verdict) → Judged levels (take (w * h) output') w h v → MeasureIs levels w h output work (measurement v output' work')
+      done v j = fitting (measurement v output' work') (goes_on sides (record { filtered = rw filtered.number at filtered; judged = rw starts at j }))

@@ -33,16 +33,14 @@ module _ (N : ℕ) (M m : Eighths) (D : ℕ) (v v' : Verdict) where
   one-judge = together alike (together alike (together alike (together alike one-rated)))
 
 -- "8 | D = 0", where the extremes pass
-pub without_noise : (N : ℕ) (M m : Eighths) (v : Verdict) → InRange N M m 0 → BrightInRange M → DarkInRange m → JudgeIs N M m 0 v
-    → v ≡ refused 8
+pub without_noise : (N : ℕ) (M m : Eighths) (v : Verdict) → InRange N M m 0 → BrightInRange M → DarkInRange m → JudgeIs N M m 0 v → v ≡ refused 8
 without_noise N M m v taken bright_in dark_in j = elim (past dark_in (past bright_in (past taken j))) [
   | inl eight ↦ eight.1
   | inr some ↦ absurd (some.0 refl)
 ]
 
 -- any two verdicts on one filtered picture are equal
-pub one_judged : (levels filtered : List ℕ) (w h : ℕ) (v v' : Verdict)
-    → Judged levels filtered w h v → Judged levels filtered w h v' → v ≡ v'
+pub one_judged : (levels filtered : List ℕ) (w h : ℕ) (v v' : Verdict) → Judged levels filtered w h v → Judged levels filtered w h v' → v ≡ v'
 one_judged levels filtered w h v v' a b =
     one-judge (inner_pixels w h) (bright w h filtered) (dark w h filtered) b.spread v v' (rw spread at a.verdict_is) b.verdict_is
   where
@@ -67,8 +65,7 @@ module _ (levels : List ℕ) (w h : ℕ) (output work : List ℕ) (a b : Measure
   one-measure = together alike (together alike (together alike (together alike (together alike one-measured))))
 
 -- past the sizes, with sides that can be measured
-pub when_measured : (levels : List ℕ) (w h : ℕ) (output work : List ℕ) (r : Measurement)
-    → Fits (length levels) w h (length output) (length work) → MeasurableSide w × MeasurableSide h
-    → MeasureIs levels w h output work r → Measured levels w h output work r
+pub when_measured : (levels : List ℕ) (w h : ℕ) (output work : List ℕ) (r : Measurement) → Fits (length levels) w h (length output) (length work)
+    → MeasurableSide w × MeasurableSide h → MeasureIs levels w h output work r → Measured levels w h output work r
 when_measured levels w h output work r f sides is =
     past sides (past f.long_work (past f.long_output (past f.shape.all_levels (past f.shape.sides is))))

@@ -1,34 +1,29 @@
 -- Laws of the ratio: the two sides of its condition, what the comparing has room for, a power of two below the root, the interval
 -- in which halving finds the ratio, and that it is determined. Assumes nothing.
-use mathlib.Core.Path.{◌≡◌, refl, sym, ◌∙◌}
-use mathlib.Core.Bool.{Bool, true, false}
-use mathlib.Core.List.{List}
+use mathlib.Core.Path.{◌≡◌, refl, sym, ap, ◌∙◌}
+use mathlib.Core.Bool.{Bool, true, false, not, not-not}
 use mathlib.Core.Logic.{inl, inr, ⊎_elim}
 use Prim.Native.Nat.{ℕ, ◌+◌, ◌-◌, ◌*◌, ◌/◌, ◌^◌, ◌<◌, ◌≤◌, zero-le}
 use native.Mathlib.Nat.{mul-le-mul, mul-le-mul_left, mul-le-mul_right, le_trans, not-le_of_lt, le-div_iff_mul-le, div-le_self}
 use native.Mathlib.Omega.{arith}
-use lib.Dec.{leb, lit<, lit≤}
+use lib.Dec.{leb, lit<}
 use borrow.Author.Tests.{leb-true, leb-false}
-use Rattle.arithmetic.specs.Greatest.{Greatest}
-use Rattle.arithmetic.specs.inside.Halving.{Between}
+use Rattle.arithmetic.specs.Greatest.{Greatest, Between}
 use Rattle.arithmetic.proofs.Order.{le_or_lt, of_squares}
 use Rattle.arithmetic.proofs.Greatest.{Falling, one_greatest, reworded}
 use Rattle.judge.specs.Judge.{Reaches, RatioIs}
-use Rattle.judge.specs.inside.Wide.{value, Room, Noisy, Rateable, BelowRoot, Compared, Comparable}
 use Rattle.judge.proofs.Digits.{product_room}
 
 -- ---- comparing the two sides: the left one times q + 138, once and twice, has room in ten digits
-module _ {left : List ℕ} {q : ℕ} (p : Comparable left q) where
+module _ {v q : ℕ} (left : v ≤ 2 ^ 70) (number : q ≤ 2 ^ 42) where
   small : q + 138 ≤ 2 ^ 43
-  small = omega (arith, p.number)
+  small = omega arith
 
-  pub once-room : Room left (q + 138) 0
-  once-room = product_room p.side small (lit≤ tt) (lit< tt)
+  pub once-room : v * (q + 138) < 65536 ^ 10
+  once-room = product_room left small (lit< tt)
 
-  pub twice-room : {once : List ℕ} → value once 10 ≡ value left 10 * (q + 138) → Room once (q + 138) 0
-  twice-room {once} e =
-      let most : value once 10 ≤ 2 ^ 70 * 2 ^ 43 = rw e (mul-le-mul p.side small) in
-      product_room most small (lit≤ tt) (lit< tt)
+  pub twice-room : {once : ℕ} → once ≡ v * (q + 138) → once * (q + 138) < 65536 ^ 10
+  twice-room e = rw e (product_room (mul-le-mul left small) small (lit< tt))
 
 -- a number times x twice is that number times the square of x
 pub twice_is_square : (v x : ℕ) {once twice : ℕ} → once ≡ v * x → twice ≡ once * x → twice ≡ x * x * v
@@ -42,6 +37,10 @@ pub answered_no : (m n : ℕ) {r : Bool} → r ≡ leb m n → r ≡ false → �
 answered_no m n e h = not-le_of_lt (leb-false m n (sym e ∙ h))
 
 -- ---- a power of two below the root
+-- p is at most the root of d, and more than half of it
+abbrev pub BelowRoot : ℕ → ℕ → Type 0
+BelowRoot d p = (1 ≤ p) × (p ≤ 2 ^ 31) × (p * p ≤ d) × (d < 4 * (p * p))
+
 -- `rest` is d divided by 4, rounded down, as often as the power was doubled
 pub record Quartered (d power rest : ℕ) : Type 0 where
   pub power_some : 1 ≤ power
@@ -50,8 +49,8 @@ pub record Quartered (d power rest : ℕ) : Type 0 where
   pub high : d < power * power * (rest + 1)
 
 -- before the first turn
-pub quartered_none : {d : ℕ} → Noisy d → Quartered d 1 d
-quartered_none noise = record { power_some = omega arith; rest_some = noise.some; low = omega arith; high = omega arith }
+pub quartered_none : {d : ℕ} → 1 ≤ d → Quartered d 1 d
+quartered_none h = record { power_some = omega arith; rest_some = h; low = omega arith; high = omega arith }
 
 module _ {d power rest : ℕ} (q : Quartered d power rest) where
   -- one turn more
@@ -72,20 +71,19 @@ module _ {d power rest : ℕ} (q : Quartered d power rest) where
   square-most = omega (arith, mul-le-mul_left (power * power) q.rest_some, q.low)
 
   -- so the power has at most half the bits
-  pub power-most : Noisy d → power ≤ 2 ^ 31
-  power-most noise = of_squares (le_trans square-most noise.most)
+  pub power-most : d ≤ 2 ^ 62 → power ≤ 2 ^ 31
+  power-most h = of_squares (le_trans square-most h)
 
   -- after the last turn the power is the one below the root
-  pub quartered-last : Noisy d → rest ≤ 3 → BelowRoot d power
-  quartered-last noise last =
-      record {
-        some = q.power_some;
-        most = power-most noise;
-        low = square-most;
-        high = omega (arith, mul-le-mul_left (power * power) last, q.high);
-      }
+  pub quartered-last : d ≤ 2 ^ 62 → rest ≤ 3 → BelowRoot d power
+  quartered-last h last =
+      (q.power_some, power-most h, square-most, omega (arith, mul-le-mul_left (power * power) last, q.high))
 
 -- ---- the condition
+-- what the code compares: the document's inequality, of the two sides as they stand in the code
+abbrev pub Compared : ℕ → ℕ → ℕ → Type 0
+Compared left right q = (q + 138) * (q + 138) * left ≤ right
+
 -- what holds of a number, holds of each smaller one
 pub compared_falls : (left right : ℕ) → Falling (Compared left right)
 compared_falls left right j k le h =
@@ -97,15 +95,15 @@ abbrev pub product : ℕ → ℕ → ℕ
 product N span = 100 * span * N
 
 -- how large it is
-pub product_most : {N span D : ℕ} → Rateable N span D → product N span ≤ 3422552064000
-product_most p = mul-le-mul (mul-le-mul_left 100 p.span_most) p.count_most
+pub product_most : {N span : ℕ} → N ≤ 1048576 → span ≤ 32640 → product N span ≤ 3422552064000
+product_most {N} {span} n s = mul-le-mul (mul-le-mul_left 100 s) n
 
 -- how large the end of the halving's interval is, a quotient of the product less 137
 pub end_most : {n : ℕ} (d : ℕ) → n ≤ 3422552064000 → n / d - 137 ≤ 2 ^ 42
 end_most {n} d h = omega (arith, div-le_self n d)
 
 -- the product's square is the right side of the document
-product_squared : (N span : ℕ) → product N span * product N span ≡ 10000 * (span * span) * (N * N)
+product_squared : (N span : ℕ) → product N span * product N span ≡ 10_000 * (span * span) * (N * N)
 product_squared N span = omega arith
 
 -- the two sides as the code has them: 256·D, and the product's square
@@ -115,14 +113,14 @@ pub record Sides (N span D left right : ℕ) : Type 0 where
 
 module _ {N span D left right : ℕ} (sides : Sides N span D left right) where
   -- how large the left one is
-  pub left-most : Noisy D → left ≤ 2 ^ 70
-  left-most noise = omega (arith, sides.left_is, noise.most)
+  pub left-most : D ≤ 2 ^ 62 → left ≤ 2 ^ 70
+  left-most h = omega (arith, sides.left_is)
 
   -- they are the document's
   document-left : (n : ℕ) → n * left ≡ n * 256 * D
   document-left n = rw sides.left_is (omega arith)
 
-  document-right : right ≡ 10000 * (span * span) * (N * N)
+  document-right : right ≡ 10_000 * (span * span) * (N * N)
   document-right = sides.right_is ∙ product_squared N span
 
   -- so comparing them says the same
@@ -138,17 +136,16 @@ module _ {N span D left right : ℕ} (sides : Sides N span D left right) where
     at-most-16th : (k : ℕ) → Compared left right k → k + 138 ≤ product N span / (16 * p)
     at-most-16th k h =
         let x = k + 138 in
-        let some : 0 < 16 * p = omega (arith, root.some) in
-        (le-div_iff_mul-le some).1
-        (of_squares (omega (arith, mul-le-mul_left (x * x * 256) root.low, document-left (x * x), h, sides.right_is)))
+        let some : 0 < 16 * p = omega (arith, root.0) in
+        (le-div_iff_mul-le some).1 (of_squares (omega (arith, mul-le-mul_left (x * x * 256) root.2, document-left (x * x), h, sides.right_is)))
 
     -- and a number that is, with 138, at most the product over 32·p reaches
     reaches-32nd : (k : ℕ) → k + 138 ≤ product N span / (32 * p) → Compared left right k
     reaches-32nd k h =
         let x = k + 138 in
-        let some : 0 < 32 * p = omega (arith, root.some) in
+        let some : 0 < 32 * p = omega (arith, root.0) in
         let within : x * (32 * p) ≤ product N span = (le-div_iff_mul-le some).0 h in
-        omega (arith, mul-le-mul within within, mul-le-mul_left (x * x * 256) root.high, document-left (x * x), sides.right_is)
+        omega (arith, mul-le-mul within within, mul-le-mul_left (x * x * 256) root.3, document-left (x * x), sides.right_is)
 
     -- where 0 reaches, the product over 16·p is at least 138
     pub quotient-least : Compared left right 0 → 138 ≤ product N span / (16 * p)
@@ -177,8 +174,7 @@ module _ {N span D left right : ℕ} (sides : Sides N span D left right) where
 -- ---- for every N, M − m and D
 -- where the ratio is q hundredths or more, it is so for each smaller q
 pub reaches_falls : (N span D : ℕ) → Falling (Reaches N span D)
-reaches_falls N span D j k le h =
-    to-document sides j (compared_falls (D * 256) (product N span * product N span) j k le (of-document sides k h))
+reaches_falls N span D j k le h = to-document sides j (compared_falls (D * 256) (product N span * product N span) j k le (of-document sides k h))
   where
     sides : Sides N span D (D * 256) (product N span * product N span)
     sides = record { left_is = refl; right_is = refl }

@@ -3,4 +3,5 @@ pub mod Noise
 pub mod Judge
 pub mod Measure
 pub mod AnnexA
-pub mod inside
+pub mod Wide
+pub mod Asked

@@ -27,5 +27,4 @@ sum_inner w h f = sum_overℤ (w * h) (counts w h) f
 -- "D = N·(sum of d²) − (sum of d)²"
 unfoldable pub spread_of : ℕ → ℕ → List ℕ → List ℕ → ℤ
 spread_of w h levels filtered =
-    (pos (inner_pixels w h) *ℤ sum_inner w h (λ k. square (difference levels filtered k)))
-    -ℤ square (sum_inner w h (difference levels filtered))
+    (pos (inner_pixels w h) *ℤ sum_inner w h (λ k. square (difference levels filtered k))) -ℤ square (sum_inner w h (difference levels filtered))

@@ -1,9 +1,11 @@
 // The extremes (document 01: "The filtered picture is cut into 4×4 tiles of w/4 by h/4 pixels"), from
 // the largest piece to the smallest: the picture's four bands, the four tiles of a band, a tile's rows,
 // a row's values.
-ghost use Rattle.judge.specs.inside.Asked.{Tiled, Part, Band, part, Gathered, EndsOf, BandSummed, ExtremesAre};
+ghost use Rattle.std.specs.Prelude.{◌≡◌, ◌+◌, ◌*◌, ◌≤◌, min, max};
+ghost use mathlib.Core.List.{foldl};
+ghost use Rattle.judge.specs.Extremes.{maximum, minimum, bright, dark};
+ghost use Rattle.judge.specs.Asked.{Tiled, Part, Band, part, band_of};
 
-use arithmetic::values::{larger, smaller};
 use units::Eighths;
 
 // The sums of the sixteen tiles' maxima and minima, M and m.
@@ -30,7 +32,7 @@ struct Ends {
 // M and m of a filtered picture.
 pub(crate) fn of_tiles(filtered: &[u16], width: usize, height: usize) -> Extremes
     requires { Tiled width height filtered.now }
-    ensures { ExtremesAre width height filtered.now result.bright result.dark }
+    ensures { (result.bright ≡ bright width height filtered.now) × (result.dark ≡ dark width height filtered.now) }
 {
     let columns = width / 4;
     let rows = height / 4;
@@ -55,7 +57,8 @@ pub(crate) fn of_tiles(filtered: &[u16], width: usize, height: usize) -> Extreme
 // The sums over a band: four tiles side by side, of which the first starts at `start`.
 fn band_totals(filtered: &[u16], width: usize, columns: usize, rows: usize, start: usize) -> Totals
     requires { Band width columns rows start filtered.now }
-    ensures { BandSummed width columns rows start filtered.now result.bright result.dark }
+    ensures bright_value { (result.bright ≡ band_of maximum width columns rows start filtered.now) × (result.bright ≤ 262_140) }
+    ensures dark_value { (result.dark ≡ band_of minimum width columns rows start filtered.now) × (result.dark ≤ 262_140) }
 {
     let mut bright = 0u64;
     let mut dark = 0u64;
@@ -75,7 +78,7 @@ fn band_totals(filtered: &[u16], width: usize, columns: usize, rows: usize, star
 // `columns` values.
 fn part_ends(filtered: &[u16], width: usize, columns: usize, rows: usize, start: usize) -> Ends
     requires { Part width columns rows start filtered.now }
-    ensures { EndsOf (part width columns rows start filtered.now) result.most result.least }
+    ensures { (result.most ≡ maximum (part width columns rows start filtered.now)) × (result.least ≡ minimum (part width columns rows start filtered.now)) }
 {
     let mut most = 0u16;
     let mut least = 65_535u16;
@@ -95,7 +98,7 @@ fn part_ends(filtered: &[u16], width: usize, columns: usize, rows: usize, start:
 
 // The greatest and the least of a row's values.
 fn row_ends(row: &[u16]) -> Ends
-    ensures { Gathered row.now result.most result.least }
+    ensures { (result.most ≡ foldl max 0 row.now) × (result.least ≡ foldl min 65_535 row.now) }
 {
     let mut most = 0u16;
     let mut least = 65_535u16;
@@ -107,4 +110,16 @@ fn row_ends(row: &[u16]) -> Ends
         i += 1;
     }
     Ends { most, least }
+}
+
+fn larger(a: u16, b: u16) -> u16
+    ensures { result ≡ max a b }
+{
+    if a < b { b } else { a }
+}
+
+fn smaller(a: u16, b: u16) -> u16
+    ensures { result ≡ min a b }
+{
+    if a < b { a } else { b }
 }

@@ -1,12 +1,12 @@
 // Whether a picture may be measured (document 01, "Extremes and noise"; document 02, P3): extremes.rt
 // has the sums M and m of the tiles' extremes, noise.rt has N and D, ratio.rt the ratio q, found by
 // comparing numbers that outgrow 64 bits, and wide.rt such numbers.
-ghost use Rattle.std.specs.Prelude.{true, false, ◌≡◌};
+ghost use Rattle.std.specs.Prelude.{true, false, ◌≡◌, ◌*◌, length};
 ghost use Rattle.answers.specs.Refusals.{Unless};
 ghost use Rattle.units.specs.Units.{eighths};
 ghost use Rattle.judge.specs.Judge.{Tested, JudgeIs, refused};
 ghost use Rattle.judge.specs.Measure.{MeasurableSide, Judged, MeasureIs, measurement};
-ghost use Rattle.judge.specs.inside.Asked.{Pictured};
+ghost use Rattle.judge.specs.Asked.{Tiled};
 
 use answers::table;
 use units::Eighths;
@@ -34,8 +34,7 @@ pub fn measure(
     output: &mut [u16],
     work: &mut [u16],
 ) -> Verdict
-    ensures { MeasureIs levels.now width height output.old work.old
-        (measurement result output.new work.new) }
+    ensures { MeasureIs levels.now width height output.old work.old (measurement result output.new work.new) }
 {
     let number = filter::sizes(levels.len(), width, height, output.len(), work.len());
     if number != table::DONE {
@@ -65,7 +64,7 @@ fn measurable(side: usize) -> bool
 
 // The verdict on a picture and what it was filtered to.
 fn judge_picture(levels: &[u8], filtered: &[u16], width: usize, height: usize) -> Verdict
-    requires { Pictured width height levels.now filtered.now }
+    requires { Tiled width height filtered.now × (length levels.now ≡ width * height) }
     ensures { Judged levels.now filtered.now width height result }
 {
     let sums = extremes::of_tiles(filtered, width, height);

@@ -2,9 +2,11 @@
 // the three outermost rows and columns on each side"). d is a difference of two terms, 8 times the
 // level and the filtered value, so that its sum is a difference of two sums, and its square that of
 // how far the two are apart: whole numbers from 0 are enough.
-ghost use Rattle.std.specs.Prelude.{◌≡◌};
-ghost use Rattle.judge.specs.Noise.{inner_pixels};
-ghost use Rattle.judge.specs.inside.Asked.{Measurable, Pictured, SpreadIs, SamePixels, EightTimes, dist, RowSums};
+ghost use Rattle.std.specs.Prelude.{◌≡◌, ◌*◌, ◌≤◌, length, pos};
+ghost use Rattle.picture.specs.Picture.{Side};
+ghost use Rattle.judge.specs.Noise.{inner_pixels, spread_of};
+ghost use Rattle.judge.specs.Measure.{MeasurableSide};
+ghost use Rattle.judge.specs.Asked.{Tiled, SamePixels, dist, light, flat, Sums};
 
 // The sums over some pixels: of d², of 8 times the levels, and of the filtered values.
 #[derive(Drop)]
@@ -16,7 +18,7 @@ struct ThreeSums {
 
 // N, the number of a picture's pixels that count: all but three rows and columns on each side.
 pub(crate) fn inner_pixels(width: usize, height: usize) -> u64
-    requires { Measurable width height }
+    requires { (Side width × Side height) × (MeasurableSide width × MeasurableSide height) }
     ensures { result ≡ inner_pixels width height }
 {
     ((width - 6) * (height - 6)) as u64
@@ -24,8 +26,8 @@ pub(crate) fn inner_pixels(width: usize, height: usize) -> u64
 
 // D of a picture and what it was filtered to.
 pub(crate) fn spread(levels: &[u8], filtered: &[u16], width: usize, height: usize) -> u64
-    requires { Pictured width height levels.now filtered.now }
-    ensures { SpreadIs width height levels.now filtered.now result }
+    requires { Tiled width height filtered.now × (length levels.now ≡ width * height) }
+    ensures { (pos result ≡ spread_of width height levels.now filtered.now) × (result ≤ 4_611_686_018_427_387_904) }
 {
     let columns = width - 6;
     let rows = height - 6;
@@ -51,7 +53,7 @@ pub(crate) fn spread(levels: &[u8], filtered: &[u16], width: usize, height: usiz
 // pixels at once.
 fn row_sums(levels: &[u8], filtered: &[u16]) -> ThreeSums
     requires { SamePixels levels.now filtered.now }
-    ensures { RowSums levels.now filtered.now result.squares result.lights result.flats }
+    ensures { Sums (light levels.now) (flat filtered.now) (length filtered.now) result.squares result.lights result.flats }
 {
     let mut squares = 0u32;
     let mut lights = 0u32;
@@ -74,7 +76,7 @@ fn row_sums(levels: &[u8], filtered: &[u16]) -> ThreeSums
 }
 
 fn eight_times(level: u8) -> u16
-    ensures { EightTimes level result }
+    ensures { (result ≡ 8 * level) × (result ≤ 2_040) }
 {
     8 * (level as u16)
 }

@@ -1,15 +1,15 @@
 // The ratio (document 01: "q, the greatest whole number from 0 with (q+138)²·256·D ≤ 10,000·(M−m)²·N²,
 // and 0 where there is none"). Both sides outgrow 64 bits, so they are compared digit by digit.
-ghost use Rattle.std.specs.Prelude.{◌≡◌, ◌+◌, ◌-◌, ◌*◌, leb};
-ghost use Rattle.arithmetic.specs.Greatest.{Greatest};
+ghost use Rattle.std.specs.Prelude.{◌≡◌, ◌+◌, ◌-◌, ◌*◌, ◌^◌, ◌<◌, ◌≤◌, leb};
+ghost use Rattle.arithmetic.specs.Greatest.{Greatest, Between};
 ghost use Rattle.judge.specs.Judge.{RatioIs};
-ghost use Rattle.judge.specs.inside.Wide.{value, Noisy, Rateable, BelowRoot, Compared, Comparable, Halving};
+ghost use Rattle.judge.specs.Wide.{value};
 
 use crate::wide;
 
 // The ratio in hundredths, rounded down, from N, M − m and D.
 pub(crate) fn ratio(count: u64, span: u64, spread: u64) -> u64
-    requires { Rateable count span spread }
+    requires { (count ≤ 1_048_576) × (span ≤ 32_640) × (1 ≤ spread) × (spread ≤ 4_611_686_018_427_387_904) }
     ensures { RatioIs count span spread result }
 {
     // the right side is this product's square
@@ -29,8 +29,8 @@ pub(crate) fn ratio(count: u64, span: u64, spread: u64) -> u64
 
 // A power of two, the greatest whose square is at most d.
 fn power_below_root(d: u64) -> u64
-    requires { Noisy d }
-    ensures { BelowRoot d result }
+    requires { (1 ≤ d) × (d ≤ 4_611_686_018_427_387_904) }
+    ensures { (1 ≤ result) × (result ≤ 2_147_483_648) × (result * result ≤ d) × (d < 4 * (result * result)) }
 {
     let mut power = 1u64;
     let mut rest = d;
@@ -50,8 +50,8 @@ fn less_138(n: u64) -> u64
 // The greatest q with (q+138)²·left at most right, which lies from lo to below hi: recursive halving
 // of that interval, whose width falls.
 fn halve(left: [u16; 10], right: [u16; 10], lo: u64, hi: u64) -> u64
-    requires { Halving left right lo hi }
-    ensures { Greatest (Compared (value left 10) (value right 10)) result }
+    requires { Between (λ q. (q + 138) * (q + 138) * value left 10 ≤ value right 10) lo hi × (hi ≤ 2 ^ 42) × (value left 10 ≤ 2 ^ 70) }
+    ensures { Greatest (λ q. (q + 138) * (q + 138) * value left 10 ≤ value right 10) result }
 {
     if hi - lo <= 1 {
         return lo;
@@ -66,7 +66,7 @@ fn halve(left: [u16; 10], right: [u16; 10], lo: u64, hi: u64) -> u64
 
 // Whether (q+138)²·left is at most right.
 fn reaches(left: [u16; 10], right: [u16; 10], q: u64) -> bool
-    requires { Comparable left q }
+    requires { (q ≤ 2 ^ 42) × (value left 10 ≤ 2 ^ 70) }
     ensures { result ≡ leb ((q + 138) * (q + 138) * value left 10) (value right 10) }
 {
     let sum = q + 138;

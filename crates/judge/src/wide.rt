@@ -1,7 +1,7 @@
 // Whole numbers below 2^160, as ten digits of 16 bits, the lowest first: the ratio's two sides have
 // more than 64 bits, and there is no machine word for them.
-ghost use Rattle.std.specs.Prelude.{◌≡◌, ◌+◌, ◌*◌, leb};
-ghost use Rattle.judge.specs.inside.Wide.{value, DigitIs, Room};
+ghost use Rattle.std.specs.Prelude.{◌≡◌, ◌+◌, ◌*◌, ◌^◌, ◌<◌, ◌≤◌, leb};
+ghost use Rattle.judge.specs.Wide.{value};
 
 // A number of 64 bits in digits.
 pub(crate) fn of(n: u64) -> [u16; 10]
@@ -13,7 +13,7 @@ pub(crate) fn of(n: u64) -> [u16; 10]
 
 // a times k, where that has room.
 pub(crate) fn times(a: [u16; 10], k: u64) -> [u16; 10]
-    requires { Room a k 0 }
+    requires { (k ≤ 2 ^ 47) × (value a 10 * k < 65_536 ^ 10) }
     ensures { value result 10 ≡ value a 10 * k }
 {
     times_plus(a, k, 0)
@@ -40,7 +40,7 @@ pub(crate) fn at_most(a: [u16; 10], b: [u16; 10]) -> bool
 
 // a times k, and c more: as one multiplies by hand, from the lowest digit, with a carry.
 fn times_plus(a: [u16; 10], k: u64, c: u64) -> [u16; 10]
-    requires { Room a k c }
+    requires { (k ≤ 2 ^ 47) × (c ≤ k) × (value a 10 * k + c < 65_536 ^ 10) }
     ensures { value result 10 ≡ value a 10 * k + c }
 {
     let mut out = [0u16; 10];
@@ -56,7 +56,7 @@ fn times_plus(a: [u16; 10], k: u64, c: u64) -> [u16; 10]
 }
 
 fn digit(d: u16) -> u64
-    ensures { DigitIs d result }
+    ensures { (result ≡ d) × (result < 65_536) }
 {
     d as u64
 }

@@ -4,8 +4,7 @@ use Prim.Native.Nat.{ℕ, ◌+◌, ◌*◌, ◌/◌, ◌≤◌}
 use native.Mathlib.Nat.{mul-le-mul, mul-le-mul_left, le_trans, lt_of_not-le}
 use native.Mathlib.Omega.{arith}
 use lib.IntN.{pos}
-use Rattle.arithmetic.specs.Greatest.{Greatest}
-use Rattle.arithmetic.specs.inside.Halving.{Between}
+use Rattle.arithmetic.specs.Greatest.{Greatest, Between}
 use Rattle.arithmetic.specs.Signed.{nat_of}
 use Rattle.arithmetic.proofs.Order.{to_ℤ, of_ℤ, low_natural, high_natural, positive}
 use Rattle.answers.proofs.Refusals.{goes_on}
@@ -53,8 +52,7 @@ module _ (s : Sixteenths) (p : Picometres) (ok : Ranged (nat_of s.0) p.0) where
   greatest : {q : ℕ} → Greatest (λ k. 512 * (k * k) ≤ p.0 * nat_of s.0 * (p.0 * nat_of s.0)) q → Greatest (NotLonger s p) q
   greatest g = rw whole (reworded (λ (k : ℕ) h. to_ℤ h) (λ (k : ℕ) h. of_ℤ h) g)
 
-  pub is-the-length : (r : Sharpness) → r.number ≡ 0
-      → Greatest (λ k. 512 * (k * k) ≤ p.0 * nat_of s.0 * (p.0 * nat_of s.0)) r.length.0 → LengthIs s p r
+  pub is-the-length : (r : Sharpness) → r.number ≡ 0 → Greatest (λ k. 512 * (k * k) ≤ p.0 * nat_of s.0 * (p.0 * nat_of s.0)) r.length.0 → LengthIs s p r
   is-the-length r done g = goes_on in_range (record { number = done; length = greatest g })
 
 -- the product and its square have room in 64 bits
@@ -80,6 +78,5 @@ pub same_answer : {r r' : Sharpness} → r.number ≡ r'.number → r.length.0 �
 same_answer {r} {r'} number length = ap (λ (n : ℕ). sharpness n r.length.0) number ∙ ap (sharpness r'.number) length
 
 -- the length is rounded down: q picometres are at most the sharpness, and q + 1 are not
-pub rounded_down : (s : Sixteenths) (p : Picometres) (r : Sharpness) → Done s p r
-    → NotLonger s p r.length.0 × (¬ NotLonger s p (r.length.0 + 1))
+pub rounded_down : (s : Sixteenths) (p : Picometres) (r : Sharpness) → Done s p r → NotLonger s p r.length.0 × (¬ NotLonger s p (r.length.0 + 1))
 rounded_down s p r done = (done.length.holds, next_has_not done.length)

@@ -1,8 +1,7 @@
 // The length of a sharpness (document 01, "Length"): the sharpness factor over the square root of 2.
-ghost use Rattle.std.specs.Prelude.{◌≡◌};
-ghost use Rattle.arithmetic.specs.Greatest.{Greatest};
+ghost use Rattle.std.specs.Prelude.{◌≡◌, ◌*◌, ◌≤◌};
+ghost use Rattle.arithmetic.specs.Greatest.{Greatest, Between};
 ghost use Rattle.length.specs.Length.{LengthIs, refused};
-ghost use Rattle.length.specs.inside.Halving.{NotAbove, Halves};
 
 use answers::table;
 use units::{Picometres, Sixteenths};
@@ -55,8 +54,8 @@ fn refuse() -> Sharpness
 // The greatest q with 512·q² at most t, which lies from lo to below hi: recursive halving of that
 // interval, whose width falls. Up to 2^27, 512·q² has room in 64 bits.
 fn halve(t: u64, lo: u64, hi: u64) -> u64
-    requires { Halves t lo hi }
-    ensures { Greatest (NotAbove t) result }
+    requires { Between (λ q. 512 * (q * q) ≤ t) lo hi × (hi ≤ 134_217_728) }
+    ensures { Greatest (λ q. 512 * (q * q) ≤ t) result }
 {
     if hi - lo <= 1 {
         return lo;

@@ -55,8 +55,7 @@ pub begun_told : (held : List ℕ) (t : Bool) → 6147 ≤ length held → Side 
     → Unless (Ranges (width_of held) (take (6147 - 3) (drop 3 held))) (t ≡ false) (t ≡ true) → Unless (Begun held) (t ≡ false) (t ≡ true)
 unfolding rows_of
 begun_told held t long width height (inl out) = stops (λ b. out.0 b.ranges) out.1
-begun_told held t long width height (inr ranges) =
-    goes_on (record { long = long; width = width; height = height; ranges = ranges.0 }) ranges.1
+begun_told held t long width height (inr ranges) = goes_on (record { long = long; width = width; height = height; ranges = ranges.0 }) ranges.1
 
 -- its three numbers, set one after the other before rows that came back
 all_set : (w h k : ℕ) (held rows past : List ℕ) → 3 ≤ length held

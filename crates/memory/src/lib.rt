@@ -1,9 +1,8 @@
 // The memory of a scan (document 02, P1): what it holds between its calls, in memory that the caller
 // lends; how it begins, and how it is told that it has.
-ghost use Rattle.std.specs.Prelude.{◌≡◌, true, false, length, drop};
+ghost use Rattle.std.specs.Prelude.{◌≡◌, true, false, ◌≤◌, length, drop};
 ghost use Rattle.answers.specs.Refusals.{Unless};
 ghost use Rattle.memory.specs.Memory.{memory, zeros, Ranges, Begun, StartIs};
-ghost use Rattle.memory.specs.inside.Asked.{Room, Rows};
 
 use answers::table;
 use arithmetic::values;
@@ -38,7 +37,7 @@ pub fn start(held: &mut [u16], width: usize, height: usize) -> u8
 
 // Writes the sides, that no row came, and zeros for the rows; what lies past them stays.
 fn reset(held: &mut [u16], width: usize, height: usize)
-    requires { Room held.old width height }
+    requires { (6_147 ≤ length held.old) × (width ≤ 1_024) × (height ≤ 1_024) }
     ensures { held.new ≡ memory width height 0 (zeros 6_144) (drop 6_147 held.old) }
 {
     clear(&mut held[3..6_147]);
@@ -85,7 +84,7 @@ pub fn begun(held: &[u16]) -> bool
 
 // Whether the rows have levels, halves and quarters.
 fn in_range(rows: &[u16], width: usize) -> bool
-    requires { Rows rows.now width }
+    requires { (length rows.now ≡ 6_144) × (width ≤ 1_024) }
     ensures { Unless (Ranges width rows.now) (result ≡ false) (result ≡ true) }
 {
     let two = width + width;

@@ -29,6 +29,5 @@ module _ (levels w h r : ℕ) where
   well-shaped z (inr (s, inr (l, d))) = record { sides = s; all_levels = l }
 
   -- any other number, handed on, is what a caller's own promise asks for, whatever the caller does past both tests
-  pub misshapen : {answer : ℕ → Type 0} {done : Type 0} → (r ≡ 0 → ⊥) → ((n : ℕ) → r ≡ n → answer n)
-      → Shaped levels w h (λ n. r ≡ n) (r ≡ 0) → Shaped levels w h answer done
+  pub misshapen : {answer : ℕ → Type 0} {done : Type 0} → (r ≡ 0 → ⊥) → ((n : ℕ) → r ≡ n → answer n) → Shaped levels w h (λ n. r ≡ n) (r ≡ 0) → Shaped levels w h answer done
   misshapen some says = carried (says 1) (carried (says 2) (λ z. absurd (some z)))

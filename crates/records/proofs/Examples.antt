@@ -71,8 +71,7 @@ just_full r is =
     one_record_at (replicate 32768 0) 0 r (Bad 16 0) is
     (goes_on (omega (arith, length-replicate {A = ℕ} 32768 0))
     (goes_on (omega (arith, length-replicate {A = ℕ} 32768 0))
-    (stops (unknown (λ (e : ◌≡◌ {A = ℕ} 0 1). omega arith) (λ (e : ◌≡◌ {A = ℕ} 0 2). omega arith)
-    (λ (e : ◌≡◌ {A = ℕ} 0 3). omega arith)) refl)))
+    (stops (unknown (λ (e : ◌≡◌ {A = ℕ} 0 1). omega arith) (λ (e : ◌≡◌ {A = ℕ} 0 2). omega arith) (λ (e : ◌≡◌ {A = ℕ} 0 3). omega arith)) refl)))
 
 pub too_long : (b at : ℕ) (r : Record) → RecordIs (replicate 32769 b) at r → r ≡ Bad 18 32768
 too_long b at r is = one_record_at (replicate 32769 b) at r (Bad 18 32768) is (stops (λ few. omega (arith, length-replicate 32769 b)) refl)

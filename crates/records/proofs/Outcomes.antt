@@ -111,17 +111,17 @@ module _ (input : List ℕ) (at : ℕ) where
   pub record Levels (side start end : ℕ) : Type 0 where
     pub starts : start ≡ at + 1
     pub ends : end ≡ start + side * side
-    pub side_is : (side ≡ 16) ⊎ (side ≡ 64)
+    pub side-is : (side ≡ 16) ⊎ (side ≡ 64)
     pub inside : end ≤ length input
     pub few : length input ≤ 32768
 
   levels : (side start end : ℕ) → Whole (Picture side start end) → Levels side start end
   levels side start end (few, inl (is, there)) =
       let s = ap side_of is in let b = ap start_of is in let e = ap end_of is in
-      record { starts = b; ends = rw s (omega arith); side_is = inl s; inside = omega arith; few = few }
+      record { starts = b; ends = rw s (omega arith); side-is = inl s; inside = omega arith; few = few }
   levels side start end (few, inr (inl (is, there))) =
       let s = ap side_of is in let b = ap start_of is in let e = ap end_of is in
-      record { starts = b; ends = rw s (omega arith); side_is = inr s; inside = omega arith; few = few }
+      record { starts = b; ends = rw s (omega arith); side-is = inr s; inside = omega arith; few = few }
   levels side start end (few, inr (inr (is, there))) = conflict is (λ e. omega arith)
 
   pub picture-lies : (side start end : ℕ) → RecordIs input at (Picture side start end) → Levels side start end
@@ -145,8 +145,7 @@ module _ (input : List ℕ) (at : ℕ) where
   pixel-lies size end is = size-of size end (whole (Pixel size end) (lit≤ tt) is)
 
   -- the record after a good one begins later, and no later than the input ends
-  pub moves-on : (r : Record) (next : ℕ) → RecordIs input at r → Follows r next
-      → (at < next) × (next ≤ length input) × (length input ≤ 32768)
+  pub moves-on : (r : Record) (next : ℕ) → RecordIs input at r → Follows r next → (at < next) × (next ≤ length input) × (length input ≤ 32768)
   moves-on (Picture side start end) next is follows = let l = picture-lies side start end is in (omega arith, omega arith, l.few)
   moves-on (Pixel size end) next is follows = let l = pixel-lies size end is in (omega arith, omega arith, l.few)
   moves-on End next is follows = absurd follows

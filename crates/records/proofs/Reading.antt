@@ -131,9 +131,6 @@ module _ (input : List ℕ) where
   one-reading (suc k) zero at last last' a b =
       absurd (not_both a.0 last' a.1.1.0 (one_record_at input at a.0 last' a.1.0 b.0) a.1.1.1.0 b.1)
   one-reading (suc k) (suc k') at last last' a b =
-      let same =
-      one_follows a.0 b.0 a.1.1.0 b.1.1.0 (one_record_at input at a.0 b.0 a.1.0 b.1.0)
-      a.1.1.1.0 b.1.1.1.0 in
-      let rest =
-      one-reading k k' b.1.1.0 last last' (subst (λ (n : ℕ). Reading input k n last) same a.1.1.1.1) b.1.1.1.1 in
+      let same = one_follows a.0 b.0 a.1.1.0 b.1.1.0 (one_record_at input at a.0 b.0 a.1.0 b.1.0) a.1.1.1.0 b.1.1.1.0 in
+      let rest = one-reading k k' b.1.1.0 last last' (subst (λ (n : ℕ). Reading input k n last) same a.1.1.1.1) b.1.1.1.1 in
       (ap suc rest.0, rest.1)

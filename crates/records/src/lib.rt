@@ -3,7 +3,6 @@ ghost use Rattle.std.specs.Prelude.{◌≡◌, ◌+◌, ◌≤◌, length};
 ghost use Rattle.answers.specs.Refusals.{Unless};
 ghost use Rattle.arithmetic.specs.Bytes.{four_bytes};
 ghost use Rattle.records.specs.Records.{Known, body_length, answer_of, by_kind, RecordIs};
-ghost use Rattle.records.specs.inside.Body.{Body};
 ghost use Rattle.units.specs.Units.{picometres};
 
 use answers::table;
@@ -81,7 +80,7 @@ fn body_length(kind: u8) -> usize
 
 // A record of a known kind, whose body is all there.
 fn by_kind(input: &[u8], kind: u8, start: usize, end: usize) -> Record
-    requires { Body input.now kind start end }
+    requires { Known kind × (end ≡ start + body_length kind) × (end ≤ length input.now) }
     ensures { answer_of result ≡ by_kind input.now kind start end }
 {
     match kind {

@@ -16,7 +16,7 @@ use Rattle.answers.proofs.Refusals.{stops, goes_on}
 use Rattle.units.specs.declared.Sixteenths.{Sixteenths}
 use Rattle.sample.specs.declared.Coordinate.{Coordinate}
 use Rattle.sample.specs.Cubic.{pixel, remainder, Inside}
-use Rattle.sample.specs.inside.Asked.{Surrounded, Located}
+use Rattle.sample.specs.Asked.{Surrounded, Located}
 
 -- z/16, rounded down, in natural numbers
 pub pixel_natural : (z : ℤ) → nat_of (shr_z z 16) ≡ nat_of z / 16
@@ -30,9 +30,7 @@ remainder_of n = pos_minus n (16 * (n / 16)) ∙ sub_pos n (16 * (n / 16)) (omeg
 -- and of a negative one, −1−n, it is 15 less that of n
 remainder_below : (n : ℕ) → negsuc n -ℤ pos 16 *ℤ negsuc (n / 16) ≡ pos (15 - n % 16)
 remainder_below n =
-    ap (λ (z : ℤ). negsuc n +ℤ z) (neg_ℤ-neg_ℤ (pos (16 * suc (n / 16))))
-    ∙ sub_pos (16 * suc (n / 16)) (suc n) (omega arith)
-    ∙ ap pos (omega arith)
+    ap (λ (z : ℤ). negsuc n +ℤ z) (neg_ℤ-neg_ℤ (pos (16 * suc (n / 16)))) ∙ sub_pos (16 * suc (n / 16)) (suc n) (omega arith) ∙ ap pos (omega arith)
 
 -- −16·m + k, which is negative where k is less
 below_zero : (m k : ℕ) → k < 16 * m → neg_ℤ (pos (16 * m)) +ℤ pos k ≡ negsuc (16 * m - suc k)
@@ -42,19 +40,15 @@ below_zero m k less = less_plus (16 * m) k ∙ sub_neg k (16 * m) less
 pub place_is : (x : Sixteenths) → (x.0 ≡ pos 16 *ℤ pixel x +ℤ pos (remainder x)) × (remainder x < 16)
 place_is x = whole x.0
   where
-    whole : (z : ℤ)
-        → (z ≡ pos 16 *ℤ shr_z z 16 +ℤ pos (nat_of (z -ℤ pos 16 *ℤ shr_z z 16))) × (nat_of (z -ℤ pos 16 *ℤ shr_z z 16) < 16)
+    whole : (z : ℤ) → (z ≡ pos 16 *ℤ shr_z z 16 +ℤ pos (nat_of (z -ℤ pos 16 *ℤ shr_z z 16))) × (nat_of (z -ℤ pos 16 *ℤ shr_z z 16) < 16)
     whole (pos n) = rw (remainder_of n) (ap pos (omega arith), omega arith)
-    whole (negsuc n) =
-        rw (remainder_below n)
-        (sym (below_zero (suc (n / 16)) (15 - n % 16) (omega arith) ∙ ap negsuc (omega arith)), omega arith)
+    whole (negsuc n) = rw (remainder_below n) (sym (below_zero (suc (n / 16)) (15 - n % 16) (omega arith) ∙ ap negsuc (omega arith)), omega arith)
 
 -- and in one way only
 pub one_place : (x : Sixteenths) (i : ℤ) (k : ℕ) → x.0 ≡ pos 16 *ℤ i +ℤ pos k → k < 16 → (i ≡ pixel x) × (k ≡ remainder x)
 one_place x i k is small = rw is (only i)
   where
-    only : (i : ℤ)
-        → (i ≡ shr_z (pos 16 *ℤ i +ℤ pos k) 16) × (k ≡ nat_of (pos 16 *ℤ i +ℤ pos k -ℤ pos 16 *ℤ shr_z (pos 16 *ℤ i +ℤ pos k) 16))
+    only : (i : ℤ) → (i ≡ shr_z (pos 16 *ℤ i +ℤ pos k) 16) × (k ≡ nat_of (pos 16 *ℤ i +ℤ pos k -ℤ pos 16 *ℤ shr_z (pos 16 *ℤ i +ℤ pos k) 16))
     only (pos n) =
         let e : n ≡ (16 * n + k) / 16 = omega arith in
         let d : k ≡ (16 * n + k) % 16 = omega arith in

@@ -67,16 +67,12 @@ permitted l w h x y n v =
 
 -- its place in its picture has the row's number and value, and no other
 abbrev pub Holds : Row → Type 0
-Holds r =
-    (s : Sampled) → SampleIs r.levels r.width r.height (sixteenths r.x) (sixteenths r.y) s
-    → s ≡ sampled r.number r.value
+Holds r = (s : Sampled) → SampleIs r.levels r.width r.height (sixteenths r.x) (sixteenths r.y) s → s ≡ sampled r.number r.value
 
 unfoldable pub holds : (r : Row) → Option (Holds r)
 unfolding dec_le ℕ_discrete Dec.and when unless ordered same side inside back permitted sample_of sumℤ weight
 holds r =
-    map
-    (λ p s is. one_sample r.levels r.width r.height (sixteenths r.x) (sixteenths r.y) s
-    (sampled r.number r.value) is p)
+    map (λ p s is. one_sample r.levels r.width r.height (sixteenths r.x) (sixteenths r.y) s (sampled r.number r.value) is p)
     (permitted r.levels r.width r.height r.x r.y r.number r.value)
 
 -- ---- the pictures
@@ -88,13 +84,20 @@ odd =
     30 ∷ 10 ∷ 80 ∷ 5 ∷ 250 ∷
     100 ∷ 17 ∷ 44 ∷ 99 ∷ 1 ∷ []
 
--- where both remainders are 8, a stands where the product of the two weights is positive, and b where it is negative
-abbrev pub signs : ℕ → ℕ → List ℕ
-signs a b =
-    a ∷ b ∷ b ∷ a ∷
-    b ∷ a ∷ a ∷ b ∷
-    b ∷ a ∷ a ∷ b ∷
-    a ∷ b ∷ b ∷ a ∷ []
+-- where both remainders are 8: bright where the product of the two weights is positive; and the other way round
+abbrev pub brightest : List ℕ
+brightest =
+    255 ∷ 0 ∷ 0 ∷ 255 ∷
+    0 ∷ 255 ∷ 255 ∷ 0 ∷
+    0 ∷ 255 ∷ 255 ∷ 0 ∷
+    255 ∷ 0 ∷ 0 ∷ 255 ∷ []
+
+abbrev pub darkest : List ℕ
+darkest =
+    0 ∷ 255 ∷ 255 ∷ 0 ∷
+    255 ∷ 0 ∷ 0 ∷ 255 ∷
+    255 ∷ 0 ∷ 0 ∷ 255 ∷
+    0 ∷ 255 ∷ 255 ∷ 0 ∷ []
 
 -- Picture, width, height, x and y, then the number and the value. Two remainders, and the two exchanged; a pixel's own level, 90;
 -- both ends of the range; the last place that has a sample; a place past each of the four borders, and farther; a side of 0; and too
@@ -104,8 +107,8 @@ table =
     row odd 5 4 (pos 43) (pos 19) 0 (pos 13569783279)
     ∷ row odd 5 4 (pos 35) (pos 27) 0 (pos 5867775855)
     ∷ row odd 5 4 (pos 32) (pos 16) 0 (pos 6039797760)
-    ∷ row (signs 255 0) 4 4 (pos 24) (pos 24) 0 (pos 21925724160)
-    ∷ row (signs 0 255) 4 4 (pos 24) (pos 24) 0 (neg_ℤ (pos 4812963840))
+    ∷ row brightest 4 4 (pos 24) (pos 24) 0 (pos 21925724160)
+    ∷ row darkest 4 4 (pos 24) (pos 24) 0 (neg_ℤ (pos 4812963840))
     ∷ row odd 5 4 (pos 47) (pos 31) 0 (pos 533960175)
     ∷ row odd 5 4 (pos 48) (pos 31) 13 (pos 0)
     ∷ row odd 5 4 (pos 47) (pos 32) 13 (pos 0)

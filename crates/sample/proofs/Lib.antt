@@ -1,5 +1,4 @@
 pub mod Weights
-pub mod Summing
 pub mod Reach
 pub mod Rows
 pub mod Coordinates

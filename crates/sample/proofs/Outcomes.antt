@@ -2,9 +2,10 @@
 use mathlib.Core.Path.{◌≡◌, ap}
 use mathlib.Core.List.{List}
 use mathlib.Core.Logic.{inl, inr}
-use Prim.Native.Nat.{ℕ, ◌≤◌}
+use Prim.Native.Nat.{ℕ, ◌*◌, ◌≤◌}
 use native.Mathlib.Omega.{arith}
 use lib.Dec.{lit≤}
+use lib.ListN.{length}
 use lib.IntN.{ℤ}
 use Rattle.arithmetic.specs.Signed.{nat_of}
 use Rattle.answers.proofs.Refusals.{alike, together}
@@ -12,23 +13,22 @@ use Rattle.units.specs.declared.Sixteenths.{Sixteenths}
 use Rattle.sample.specs.declared.Sampled.{Sampled}
 use Rattle.sample.specs.declared.Coordinate.{Coordinate}
 use Rattle.sample.specs.Cubic.{sample_of, pixel, remainder, sample_at, refused, SampleIs}
-use Rattle.sample.specs.inside.Asked.{Surrounded, Located}
+use Rattle.sample.specs.Asked.{Surrounded, Located}
 use Rattle.sample.proofs.Coordinates.{inside_surrounded, is-pixel, is-remainder}
 
 -- the sum over the 4×4 levels around two coordinates as the code takes them apart is the sample there
-pub is_sample : (levels : List ℕ) {w h : ℕ} (x y : Sixteenths) (column row : Coordinate) {z : ℤ} → Located x column → Located y row
-    → Surrounded w column.pixel → Surrounded h row.pixel
+pub is_sample : (levels : List ℕ) {w h : ℕ} (x y : Sixteenths) (column row : Coordinate) {z : ℤ} → Located x column → Located y row → Surrounded w column.pixel → Surrounded h row.pixel
     → z ≡ sample_of levels w column.pixel row.pixel column.remainder row.remainder → z ≡ sample_at levels w x y
 is_sample levels {w} {h} x y column row at_x at_y in-x in-y is =
     rw (is-pixel x column at_x, is-remainder x column at_x w in-x, is-pixel y row at_y, is-remainder y row at_y h in-y) at is
 
 -- any two outcomes that the promise permits are equal
-pub one_sample : (levels : List ℕ) (w h : ℕ) (x y : Sixteenths) (r r' : Sampled)
-    → SampleIs levels w h x y r → SampleIs levels w h x y r' → r ≡ r'
+pub one_sample : (levels : List ℕ) (w h : ℕ) (x y : Sixteenths) (r r' : Sampled) → SampleIs levels w h x y r → SampleIs levels w h x y r' → r ≡ r'
 one_sample levels w h x y r r' = together alike (together alike (together alike alike))
 
--- what a sample rests on: the 4×4 levels are in the picture, and the value is the definition's
+-- what a sample rests on: the picture has all its levels, the 4×4 of them are in it, and the value is the definition's
 pub record Done (levels : List ℕ) (w h : ℕ) (x y : Sixteenths) (value : ℤ) : Type 0 where
+  pub all_levels : length levels ≡ w * h
   pub column : Surrounded w (nat_of (pixel x))
   pub row : Surrounded h (nat_of (pixel y))
   pub is : value ≡ sample_at levels w x y
@@ -38,14 +38,9 @@ sample_refused : {n : ℕ} {r : Sampled} → 1 ≤ n → r ≡ refused n → ¬ 
 sample_refused some is done = let e = ap (λ (s : Sampled). s.number) is in omega arith
 
 -- where the number is 0
-pub when_done : (levels : List ℕ) (w h : ℕ) (x y : Sixteenths) (r : Sampled) → r.number ≡ 0 → SampleIs levels w h x y r
-    → Done levels w h x y r.value
+pub when_done : (levels : List ℕ) (w h : ℕ) (x y : Sixteenths) (r : Sampled) → r.number ≡ 0 → SampleIs levels w h x y r → Done levels w h x y r.value
 when_done levels w h x y r z (inl a) = absurd (sample_refused (lit≤ tt) a.1 z)
 when_done levels w h x y r z (inr (s, inl a)) = absurd (sample_refused (lit≤ tt) a.1 z)
 when_done levels w h x y r z (inr (s, inr (l, inl a))) = absurd (sample_refused (lit≤ tt) a.1 z)
 when_done levels w h x y r z (inr (s, inr (l, inr (i, e)))) =
-    record {
-      column = inside_surrounded w (pixel x) i.0;
-      row = inside_surrounded h (pixel y) i.1;
-      is = ap (λ (s : Sampled). s.value) e;
-    }
+    record { all_levels = l; column = inside_surrounded w (pixel x) i.0; row = inside_surrounded h (pixel y) i.1; is = ap (λ (s : Sampled). s.value) e }

@@ -3,19 +3,16 @@
 use mathlib.Core.Path.{◌≡◌, sym, ap, ◌∙◌}
 use mathlib.Core.List.{List}
 use Prim.Native.Nat.{ℕ, ◌+◌, ◌-◌, ◌*◌, ◌<◌, ◌≤◌}
+use native.Mathlib.Nat.{le_antisymm}
 use native.Mathlib.Omega.{arith}
 use lib.ListN.{length, get_or}
 use lib.IntN.{ℤ, pos, ◌*ℤ◌}
-use mir.Syntax.{w64}
-use mir.Val.{to_z}
 use Rattle.arithmetic.specs.Sums.{sumℤ}
 use Rattle.arithmetic.proofs.Order.{row_end}
 use Rattle.arithmetic.proofs.Differences.{mul_assocℤ}
 use Rattle.arithmetic.proofs.SignedSums.{sumℤ_same, sumℤ_times}
 use Rattle.sample.specs.Cubic.{weight, sample_of}
-use Rattle.sample.specs.declared.Coordinate.{Coordinate}
-use Rattle.sample.specs.inside.Asked.{Surrounded, Around, weighted, level_from, row_sum, row_start, row_from}
-use Rattle.sample.proofs.Summing.{Summed, summed_none, summed_all}
+use Rattle.sample.specs.Asked.{Surrounded, Around, column_term, row_sum, row_start, row_term}
 
 module _ (levels : List ℕ) (w i j across down : ℕ) where
   -- a term of the sum over 4×4 levels
@@ -23,40 +20,39 @@ module _ (levels : List ℕ) (w i j across down : ℕ) where
   term r t = weight down r *ℤ weight across t *ℤ pos (get_or levels ((j - 1 + r) * w + (i - 1 + t)) 0)
 
   -- is the row's weight times a term of the row
-  regrouped : (r t : ℕ) → term r t ≡ weight down r *ℤ weighted across (level_from levels (row_start w i j r)) t
+  regrouped : (r t : ℕ) → term r t ≡ weight down r *ℤ column_term levels (row_start w i j r) across t
   regrouped r t =
-      mul_assocℤ (weight down r) (weight across t) (pos (get_or levels ((j - 1 + r) * w + (i - 1 + t)) 0))
-      ∙ ap (λ (p : ℕ). weight down r *ℤ (weight across t *ℤ pos (get_or levels p 0))) (omega arith)
+      mul_assocℤ (weight down r) (weight across t) (pos (get_or levels ((j - 1 + r) * w + (i - 1 + t)) 0)) ∙
+      ap (λ (p : ℕ). weight down r *ℤ (weight across t *ℤ pos (get_or levels p 0))) (omega arith)
 
   -- so that the weight of a row stands before its sum
-  one-row : (r : ℕ) → sumℤ 4 (term r) ≡ weighted down (row_from levels w i j across) r
+  one-row : (r : ℕ) → sumℤ 4 (term r) ≡ row_term levels w i j across down r
   unfolding row_sum
   one-row r =
-      let of_row = weighted across (level_from levels (row_start w i j r)) in
+      let of_row = column_term levels (row_start w i j r) across in
       sumℤ_same 4 (term r) (λ t. weight down r *ℤ of_row t) (λ t l. regrouped r t) ∙ sumℤ_times (weight down r) 4 of_row
 
-  pub by_rows : sample_of levels w i j across down ≡ sumℤ 4 (weighted down (row_from levels w i j across))
+  pub by_rows : sample_of levels w i j across down ≡ sumℤ 4 (row_term levels w i j across down)
   unfolding sample_of
-  by_rows = sumℤ_same 4 (λ r. sumℤ 4 (term r)) (weighted down (row_from levels w i j across)) (λ r l. one-row r)
+  by_rows = sumℤ_same 4 (λ r. sumℤ 4 (term r)) (row_term levels w i j across down) (λ r l. one-row r)
+
+-- four terms are all of a row's, and of a sample's
+pub row_done : (levels : List ℕ) (at k : ℕ) {n : ℕ} {z : ℤ} → n ≤ 4 → 4 ≤ n → z ≡ sumℤ n (column_term levels at k) → z ≡ row_sum levels at k
+unfolding row_sum
+row_done levels at k up down is = is ∙ ap (λ (m : ℕ). sumℤ m (column_term levels at k)) (le_antisymm up down)
+
+pub sample_done : (levels : List ℕ) (w i j across down : ℕ) {n : ℕ} {z : ℤ} → n ≤ 4 → 4 ≤ n
+    → z ≡ sumℤ n (row_term levels w i j across down) → z ≡ sample_of levels w i j across down
+sample_done levels w i j across down up low is =
+    is ∙ ap (λ (m : ℕ). sumℤ m (row_term levels w i j across down)) (le_antisymm up low) ∙ sym (by_rows levels w i j across down)
 
 -- ---- where the rows lie
--- what the loop over them knows after r of the four: where the next begins, and what those before it add up to
-pub record Rows (levels : List ℕ) (w : ℕ) (column row : Coordinate) (at sum r : ℕ) : Type 0 where
-  pub starts : at ≡ row_start w column.pixel row.pixel r
-  pub so_far : Summed row.remainder (row_from levels w column.pixel row.pixel column.remainder) sum r
+-- where the first begins, and the next
+pub first_start : (w i j : ℕ) → (j - 1) * w + (i - 1) ≡ row_start w i j 0
+first_start w i j = omega arith
 
-module _ (levels : List ℕ) (w : ℕ) (column row : Coordinate) where
-  pub rows_none : Rows levels w column row ((row.pixel - 1) * w + (column.pixel - 1)) 0 0
-  rows_none = record { starts = omega arith; so_far = summed_none _ _ }
-
-  pub rows_more : {at sum r sum' : ℕ} → Rows levels w column row at sum r
-      → Summed row.remainder (row_from levels w column.pixel row.pixel column.remainder) sum' (r + 1)
-      → Rows levels w column row (at + w) sum' (r + 1)
-  rows_more s more = record { starts = omega (arith, s.starts); so_far = more }
-
-  pub rows_all : {at sum r : ℕ} → Rows levels w column row at sum r → 4 ≤ r
-      → to_z w64 sum ≡ sample_of levels w column.pixel row.pixel column.remainder row.remainder
-  rows_all s all = summed_all s.so_far all ∙ sym (by_rows levels w column.pixel row.pixel column.remainder row.remainder)
+pub next_start : (w i j r : ℕ) {at : ℕ} → at ≡ row_start w i j r → at + w ≡ row_start w i j (r + 1)
+next_start w i j r is = omega arith
 
 -- four levels of each are in the picture
 module _ {w h i j : ℕ} (column : Surrounded w i) (row : Surrounded h j) (r : ℕ) (in-it : r < 4) where
@@ -72,11 +68,10 @@ pub record RowIn (levels : List ℕ) (w i j r : ℕ) : Type 0 where
   pub few : length levels ≤ 1048576
   pub narrow : w ≤ 1048576
 
-pub row_in : {levels : List ℕ} {w : ℕ} {column row : Coordinate} → Around levels w column row → (r : ℕ) → r < 4
-    → RowIn levels w column.pixel row.pixel r
+pub row_in : {levels : List ℕ} {w i j : ℕ} → Around levels w i j → (r : ℕ) → r < 4 → RowIn levels w i j r
 row_in a r in-it =
     record {
-      ends = omega (arith, four-in a.in_columns a.in_rows r in-it, a.all_levels);
+      ends = omega (arith, four-in a.column a.row r in-it, a.all_levels);
       few = omega (arith, a.all_levels, a.few);
-      narrow = omega (arith, row_ends a.in_columns a.in_rows r in-it, a.few);
+      narrow = omega (arith, row_ends a.column a.row r in-it, a.few);
     }

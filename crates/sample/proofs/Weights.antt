@@ -44,6 +44,4 @@ powers {k} small =
 pub weights_add : (k : ℕ) → sumℤ 4 (weight k) ≡ pos 8192
 unfolding sum
 weights_add k =
-    sum_diff 4 (weight k) (added k) (taken k) (weight_is k)
-    ∙ same_diff (sum 4 (added k)) (sum 4 (taken k)) 8192 0 (omega arith)
-    ∙ sym (pos_diff 8192)
+    sum_diff 4 (weight k) (added k) (taken k) (weight_is k) ∙ same_diff (sum 4 (added k)) (sum 4 (taken k)) 8192 0 (omega arith) ∙ sym (pos_diff 8192)

@@ -1,2 +1,2 @@
 pub mod Cubic
-pub mod inside
+pub mod Asked

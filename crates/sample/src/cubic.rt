@@ -1,16 +1,17 @@
 // The weights of a remainder, and the sum over the 4×4 levels around a place (document 01: "A sample
 // is the sum over 4×4 original levels of row weight times column weight").
-ghost use Rattle.std.specs.Prelude.{◌≡◌};
+ghost use Rattle.std.specs.Prelude.{◌≡◌, ◌+◌, ◌<◌, ◌≤◌, ◌^◌, length};
 ghost use Rattle.std.proofs.Math.IntN.{sub_ℕ};
 ghost use Rattle.sample.specs.Cubic.{weight as weight_of, sample_of};
-ghost use Rattle.sample.specs.inside.Asked.{Around, Four, Weighed, Halves, row_sum};
+ghost use Rattle.sample.specs.Asked.{Around, row_sum};
 
 use crate::Coordinate;
 
 // The sum over the 4×4 levels around a column and a row: each row's sum, times the weight of the row.
 // The compiler unrolls both loops, and computes each of the eight weights once.
 pub(crate) fn around(levels: &[u8], width: usize, column: Coordinate, row: Coordinate) -> i64
-    requires { Around levels.now width column row }
+    requires around { Around levels.now width column.pixel row.pixel }
+    requires remainder_bound { (column.remainder < 16) × (row.remainder < 16) }
     ensures { result ≡ sample_of levels.now width column.pixel row.pixel column.remainder row.remainder }
 {
     let mut at = (row.pixel - 1) * width + (column.pixel - 1);
@@ -26,7 +27,7 @@ pub(crate) fn around(levels: &[u8], width: usize, column: Coordinate, row: Coord
 
 // The sum of four levels of a row, from `at` on, each times the weight of its column.
 fn row_sum(levels: &[u8], at: usize, k: u64) -> i64
-    requires { Four levels.now at k }
+    requires { (at + 4 ≤ length levels.now) × (k < 16) }
     ensures { result ≡ row_sum levels.now at k }
 {
     let mut sum = 0i64;
@@ -41,7 +42,7 @@ fn row_sum(levels: &[u8], at: usize, k: u64) -> i64
 // The weight of remainder k on pixel i−1+t, in 1/8,192: the document's four formulas, each as what it
 // adds less what it takes away.
 fn weight(k: u64, t: usize) -> i64
-    requires { Weighed k t }
+    requires { (k < 16) × (t < 4) }
     ensures { result ≡ weight_of k t }
 {
     let square = k * k;
@@ -56,7 +57,7 @@ fn weight(k: u64, t: usize) -> i64
 
 // What is added less what is taken away.
 fn difference(added: u64, taken: u64) -> i64
-    requires { Halves added taken }
+    requires { (added < 2 ^ 63) × (taken < 2 ^ 63) }
     ensures { result ≡ sub_ℕ added taken }
 {
     (added as i64) - (taken as i64)

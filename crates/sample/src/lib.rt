@@ -3,7 +3,7 @@
 ghost use Rattle.std.specs.Prelude.{◌≡◌, true, false};
 ghost use Rattle.answers.specs.Refusals.{Unless};
 ghost use Rattle.sample.specs.Cubic.{SampleIs, refused};
-ghost use Rattle.sample.specs.inside.Asked.{Surrounded, Located};
+ghost use Rattle.sample.specs.Asked.{Surrounded, Located};
 
 use answers::table;
 use units::Sixteenths;

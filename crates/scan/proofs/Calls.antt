@@ -16,15 +16,14 @@ use Rattle.scan.specs.Ring.{held_in, later}
 use Rattle.scan.proofs.SixRows.{count_set}
 use Rattle.scan.specs.Held.{Held, pass_three_row, step, after, given, no_row}
 use Rattle.scan.specs.Scan.{scanned, at_front, due, rows_given, rows_held, RowsIs, end_given, EndIs}
-use Rattle.scan.specs.inside.Steps.{Refused}
-use Rattle.scan.specs.inside.Asked.{long, Ready, Coming}
+use Rattle.scan.specs.Asked.{long, Ready, Coming}
 use Rattle.scan.proofs.Shown.{long-there, long-before, long-past}
 use Rattle.scan.proofs.Turns.{length-pass-three, ready-next, held_next, length-next}
 
 -- a call that is refused
-pub refused_is : {n number rows : ℕ} {held output : List ℕ} → Refused n number rows
+pub refused_is : {n number rows : ℕ} {held output : List ℕ} → (number ≡ n) × (rows ≡ 0)
     → scanned number rows held output ≡ scanned n 0 held output
-refused_is {held = held} {output = output} e = λ i. scanned (e.number_is i) (e.no_rows i) held output
+refused_is {held = held} {output = output} e = λ i. scanned (e.0 i) (e.1 i) held output
 
 -- the rows due, as the code counts them
 pub less_of : {a b x y : ℕ} → a ≡ x → b ≡ y → a - b ≡ x - y
@@ -214,5 +213,5 @@ module _ (held : List ℕ) (begun : Begun held) (last : came_of held ≡ height_
         ∙ drop_at (take 3 held ++ rows') (drop 6144 (drop 3 held)) 6147 front
         ∙ drop-drop 6144 3 held in
         let left_is = is-left ∙ ap (memory v g (g + 3) (zeros 6144)) past in
-        let out_is = is-out ∙ ap (λ (f : ℕ → List ℕ). at_front (given (held_in v g j six) f 3) output) no_rows in
-        goes_on begun (goes_on last (goes_on room (λ i. scanned 0 (is-r i) (left_is i) (out_is i))))
+        let out-is = is-out ∙ ap (λ (f : ℕ → List ℕ). at_front (given (held_in v g j six) f 3) output) no_rows in
+        goes_on begun (goes_on last (goes_on room (λ i. scanned 0 (is-r i) (left_is i) (out-is i))))

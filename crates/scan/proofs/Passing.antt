@@ -11,7 +11,7 @@ use Rattle.memory.specs.Memory.{two_of}
 use Rattle.scan.specs.Ring.{last_two, held_in, replaced, next}
 use Rattle.scan.proofs.SixRows.{length_two_of}
 use Rattle.scan.specs.Held.{Held, completed, pass_one_row, pass_two_row, pass_three_row}
-use Rattle.scan.specs.inside.Asked.{long, Below, Ready}
+use Rattle.scan.specs.Asked.{long, Below, Ready}
 use Rattle.scan.proofs.Shown.{none-or-long}
 use Rattle.scan.proofs.Twos.{length-replaced}
 use Rattle.scan.proofs.Turns.{length-pass-one, length-pass-two, most-pass-one, most-pass-two}
@@ -87,9 +87,9 @@ module _ {w h k : ℕ} {rows levels : List ℕ} (arriving : Arriving w h k rows 
     unfolding pass_three_row held_in
     pass-three-is-row e f is = is ∙ rw (e, f)
 
-  pub two_are : (pass : ℕ) (two part x row : List ℕ) → two ≡ two_of w rows pass → part ≡ row → x ≡ replaced w k two part
+  pub two-are : (pass : ℕ) (two part x row : List ℕ) → two ≡ two_of w rows pass → part ≡ row → x ≡ replaced w k two part
       → x ≡ replaced w k (two_of w rows pass) row
-  two_are pass two part x row e f is = is ∙ rw (e, f)
+  two-are pass two part x row e f is = is ∙ rw (e, f)
 
   pub length-two-are : (pass late : ℕ) → pass ≤ 2 → (x row : List ℕ) → length row ≡ long w h k late
       → x ≡ replaced w k (two_of w rows pass) row → length x ≡ w + w

@@ -11,7 +11,7 @@ use Rattle.arithmetic.specs.Lists.{AtMost}
 use Rattle.memory.specs.Memory.{row_at}
 use Rattle.memory.proofs.Places.{part_row}
 use Rattle.scan.specs.Ring.{shown}
-use Rattle.scan.specs.inside.Asked.{long}
+use Rattle.scan.specs.Asked.{long}
 
 -- row k − late is one of the picture's h
 abbrev pub There : ℕ → ℕ → ℕ → Type 0

@@ -14,7 +14,7 @@ use Rattle.memory.proofs.Places.{length_row_at, part_row, most_row_at}
 use Rattle.scan.specs.Ring.{held_in, next, later}
 use Rattle.scan.specs.Held.{Held, pass_three_row, step, after, given}
 use Rattle.scan.specs.Scan.{at_front}
-use Rattle.scan.specs.inside.Asked.{long, Ready}
+use Rattle.scan.specs.Asked.{long, Ready}
 use Rattle.scan.proofs.Turns.{length-pass-three, ready-next, held_next}
 
 -- rows given out only grow

@@ -9,7 +9,7 @@ use Rattle.memory.specs.Memory.{two_of, Ranges}
 use Rattle.scan.specs.Ring.{last_two, held_in, replaced, next}
 use Rattle.scan.proofs.SixRows.{length_two_of, two-first, two-second, two-third}
 use Rattle.scan.specs.Held.{Held, followed, pass_one_row, pass_two_row, pass_three_row, step}
-use Rattle.scan.specs.inside.Asked.{long, Ready}
+use Rattle.scan.specs.Asked.{long, Ready}
 use Rattle.scan.proofs.Twos.{length-completed, most-completed, most-replaced, length-replaced, two-next}
 
 -- ---- what a row completes: how long it is, and how large

@@ -19,7 +19,7 @@ use Rattle.memory.specs.Memory.{row_at}
 use Rattle.memory.proofs.Places.{length_row_at, most_row_at, most_over, row-at-same, row-at-other}
 use Rattle.scan.specs.Ring.{shown, last_two, replaced}
 use Rattle.scan.specs.Held.{completed, followed}
-use Rattle.scan.specs.inside.Asked.{long, Below}
+use Rattle.scan.specs.Asked.{long, Below}
 use Rattle.scan.proofs.Shown.{there_or_not, long-there, long-not, none-or-long, long-most}
 use Rattle.scan.proofs.Shown.{shown-there, shown-not, length-shown, most-shown, shown-part, shown_next}
 

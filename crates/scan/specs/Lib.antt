@@ -1,4 +1,4 @@
 pub mod Held
 pub mod Ring
 pub mod Scan
-pub mod inside
+pub mod Asked

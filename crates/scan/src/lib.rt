@@ -1,11 +1,10 @@
 // Rows while the beam runs (document 02, P1): rows that come, and the end. What a scan holds between its
 // calls lies in memory that the caller lends, and `memory::start` begins it. Of the picture it has the six
 // rows that are still needed, and nothing else; steps.rt takes the rows that come, one by one.
+ghost use Rattle.std.specs.Prelude.{◌≡◌};
 ghost use Rattle.scan.specs.Scan.{scanned, RowsIs, EndIs};
-ghost use Rattle.scan.specs.inside.Steps.{Refused};
 
 use answers::table;
-use arithmetic::sizes;
 
 mod steps;
 
@@ -18,7 +17,7 @@ pub struct Given {
 
 // A call that is refused gives no rows.
 fn refuse(number: u8) -> Given
-    ensures { Refused number result.number result.rows }
+    ensures { (result.number ≡ number) × (result.rows ≡ 0) }
 {
     Given { number, rows: 0 }
 }
@@ -26,8 +25,7 @@ fn refuse(number: u8) -> Given
 // Rows come, one or several or none: the rows of the filtered picture that they complete go to the front
 // of the output. Refused by 1, 20, 21 and 3, in this order, with nothing changed.
 pub fn rows(held: &mut [u16], levels: &[u8], output: &mut [u16]) -> Given
-    ensures { RowsIs held.old levels.now output.old
-        (scanned result.number result.rows held.new output.new) }
+    ensures { RowsIs held.old levels.now output.old (scanned result.number result.rows held.new output.new) }
 {
     if !memory::begun(held) {
         return refuse(table::SIDE_OUT_OF_RANGE);
@@ -39,10 +37,10 @@ pub fn rows(held: &mut [u16], levels: &[u8], output: &mut [u16]) -> Given
         return refuse(table::PART_OF_A_ROW);
     }
     let n = levels.len() / width;
-    if sizes::less(height, came) < n {
+    if steps::less(height, came) < n {
         return refuse(table::ROWS_BEYOND);
     }
-    let due = sizes::less(came + n, 3) - sizes::less(came, 3);
+    let due = steps::less(came + n, 3) - steps::less(came, 3);
     if output.len() < due * width {
         return refuse(table::SHORT_OUTPUT);
     }
@@ -67,8 +65,7 @@ pub fn rows(held: &mut [u16], levels: &[u8], output: &mut [u16]) -> Given
 // output, and nothing is held any more. They are those that three rows more complete that are not there.
 // Refused by 1, 22 and 3, in this order, with nothing changed.
 pub fn end(held: &mut [u16], output: &mut [u16]) -> Given
-    ensures { EndIs held.old output.old
-        (scanned result.number result.rows held.new output.new) }
+    ensures { EndIs held.old output.old (scanned result.number result.rows held.new output.new) }
 {
     if !memory::begun(held) {
         return refuse(table::SIDE_OUT_OF_RANGE);
@@ -79,7 +76,7 @@ pub fn end(held: &mut [u16], output: &mut [u16]) -> Given
     if came != height {
         return refuse(table::NOT_THE_END);
     }
-    let due = height - sizes::less(height, 3);
+    let due = height - steps::less(height, 3);
     if output.len() < due * width {
         return refuse(table::SHORT_OUTPUT);
     }

@@ -1,9 +1,19 @@
 // Rows that come, one by one: what each completes, and what is kept of it. `rows` is the part of a scan's
 // memory that has the six rows, and `k` is the number of rows that came before.
-ghost use Rattle.std.specs.Prelude.{◌≡◌, ◌+◌, ◌≤◌, length};
+ghost use Rattle.std.specs.Prelude.{◌≡◌, ◌++◌, ◌+◌, ◌-◌, ◌≤◌, length, drop};
 ghost use Rattle.arithmetic.specs.Lists.{over};
-ghost use Rattle.scan.specs.inside.Asked.{long};
-ghost use Rattle.scan.specs.inside.Steps.{Passing, completed_in, Passed, Taking, Taken, TakingAll, TakenAll};
+ghost use Rattle.memory.specs.Memory.{row_at};
+ghost use Rattle.scan.specs.Ring.{last_two, held_in, replaced, next, later};
+ghost use Rattle.scan.specs.Held.{completed, pass_three_row, given};
+ghost use Rattle.scan.specs.Scan.{at_front};
+ghost use Rattle.scan.specs.Asked.{long, Below, Ready, Coming};
+
+// a less b, 0 where b is more.
+pub(crate) fn less(a: usize, b: usize) -> usize
+    ensures { result ≡ a - b }
+{
+    if a < b { 0 } else { a - b }
+}
 
 // n rows of `each` levels come: `each` is the width, or 0 for rows below the last, which are not there. What they
 // complete goes to the front of the output, one row after the other. The room for the rows on their way is
@@ -18,9 +28,9 @@ pub(crate) fn take_rows(
     levels: &[u8],
     output: &mut [u16],
 )
-    requires { TakingAll width height k each n rows.old levels.now output.old }
-    ensures { TakenAll width height k each n rows.old levels.now output.old
-        rows.new output.new }
+    requires { Ready width height k rows.old × Coming width height k each n rows.old levels.now output.old }
+    ensures rows_after { rows.new ≡ later width height k rows.old (row_at each levels.now) n }
+    ensures output_after { output.new ≡ at_front (given (held_in width height k rows.old) (row_at each levels.now) n) output.old }
 {
     let mut widened = blank();
     let mut halves = blank();
@@ -65,9 +75,10 @@ fn take_row(
     quarters: &mut [u16],
     out: &mut [u16],
 )
-    requires { Taking width height k rows.old levels.now widened.old halves.old quarters.old out.old }
-    ensures { Taken width height k rows.old levels.now out.old
-        rows.new out.new }
+    requires ready { Ready width height k rows.old × (length levels.now ≡ long width height k 0) × (long width height k 3 ≤ length out.old) }
+    requires width_in_bounds { (width ≤ length widened.old) × (width ≤ length halves.old) × (width ≤ length quarters.old) }
+    ensures rows_after { rows.new ≡ next width height k rows.old levels.now }
+    ensures out_after { out.new ≡ pass_three_row (held_in width height k rows.old) levels.now ++ drop (long width height k 3) out.old }
 {
     let two = width + width;
     let four = two + two;
@@ -129,9 +140,9 @@ fn pass(
     row: &[u16],
     out: &mut [u16],
 )
-    requires { Passing width height k late two.old row.now out.old }
-    ensures { Passed width height k late two.old row.now out.old
-        two.new out.new }
+    requires { Below width k late two.old row.now × (long width height k late ≤ length out.old) }
+    ensures two_after { two.new ≡ replaced width k two.old row.now }
+    ensures out_after { out.new ≡ completed (last_two width height k late two.old) row.now ++ drop (long width height k late) out.old }
 {
     complete(two, width, height, k, late, row, out);
     put(two, k % 2 * width, row);
@@ -149,8 +160,8 @@ fn complete(
     row: &[u16],
     out: &mut [u16],
 )
-    requires { Passing width height k late two.now row.now out.old }
-    ensures { out.new ≡ completed_in width height k late two.now row.now out.old }
+    requires { Below width k late two.now row.now × (long width height k late ≤ length out.old) }
+    ensures { out.new ≡ completed (last_two width height k late two.now) row.now ++ drop (long width height k late) out.old }
 {
     let n = long(width, height, k, late);
     if n == 0 {

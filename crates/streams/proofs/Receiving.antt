@@ -11,8 +11,7 @@ use borrow.Author.Tests.{ltb-true}
 use Rattle.io.specs.Counts.{clamp_len}
 use Rattle.io.proofs.Counting.{prefix_len_of_le}
 use Rattle.streams.specs.declared.Got.{Got}
-use Rattle.streams.specs.Streams.{Received}
-use Rattle.streams.specs.inside.Answers.{Told}
+use Rattle.streams.specs.Streams.{Received, Told}
 
 -- n bytes came, and no read failed
 pub came : (space : List ℕ) (n : ℕ) → n ≤ length space → Received space (record { failed = false; count = n })

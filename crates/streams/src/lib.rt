@@ -1,7 +1,6 @@
 // Standard input for the programs: read until a space is full, with an end of the input told from a
 // read that fails.
-ghost use Rattle.streams.specs.Streams.{Received};
-ghost use Rattle.streams.specs.inside.Answers.{Told};
+ghost use Rattle.streams.specs.Streams.{Received, Told};
 
 use libc::STDIN_FILENO;
 

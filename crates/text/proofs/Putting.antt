@@ -8,7 +8,7 @@ use Rattle.arithmetic.specs.Signed.{nat_of}
 use Rattle.answers.proofs.Refusals.{goes_on}
 use Rattle.arithmetic.proofs.Writing.{listed_take, over_one, over_both, length_over}
 use Rattle.text.specs.Text.{Spelled, SpelledSigned, Block, block, PutIs}
-use Rattle.text.specs.inside.Digits.{Digits}
+use Rattle.text.specs.Inside.{Digits}
 use Rattle.text.proofs.Spelling.{spelled, one_digit, few_digits}
 
 -- one digit, stored

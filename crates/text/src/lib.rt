@@ -2,7 +2,7 @@
 ghost use Rattle.std.specs.Prelude.{◌≡◌, ◌+◌, ◌≤◌, true, length, pos, int_lt, slice_index, unsigned_abs};
 ghost use Rattle.arithmetic.specs.Lists.{listed, over};
 ghost use Rattle.text.specs.Text.{Spelled, SpelledSigned, block as block_of, PutIs};
-ghost use Rattle.text.specs.inside.Digits.{Digits, Copied};
+ghost use Rattle.text.specs.Inside.{Digits};
 
 // Puts a number and the byte `after` into the block, from `at` on; where they end. Where fewer than 22
 // bytes are left, nothing is put and `at` comes back.
@@ -71,7 +71,7 @@ fn magnitude(v: i64) -> u64
 
 // The first `count` bytes of some text, copied into the block from `at` on.
 fn copy(text: &[u8; 20], count: usize, block: &mut [u8], at: usize)
-    requires { Copied count block.old at }
+    requires { (count ≤ 20) × (at + count ≤ length block.old) }
     ensures { block.new ≡ over block.old at (listed count (λ i. slice_index text.now i)) }
 {
     let mut i = 0;

@@ -14,7 +14,7 @@ use Rattle.answers.proofs.Refusals.{goes_on}
 use Rattle.arithmetic.proofs.Lists.{most_equal}
 use Rattle.arithmetic.proofs.Sums.{sum_equal}
 use Rattle.threshold.specs.Histogram.{count_of, Countable, Tally, tally, CountIs}
-use Rattle.threshold.specs.inside.Asked.{added_up_to, Added}
+use Rattle.threshold.specs.Asked.{added_up_to, Added}
 use Rattle.threshold.proofs.Histograms.{counts-none, counts-more, count_done}
 use Rattle.threshold.proofs.Outcomes.{one_count}
 

@@ -15,8 +15,7 @@ use Rattle.arithmetic.proofs.Greatest.{one_least, least_found}
 use Rattle.threshold.specs.Histogram.{total}
 use Rattle.threshold.specs.TwoMeans.{start, round, Within, Rests, threshold, LiesBetween, Settled}
 use Rattle.threshold.proofs.Rounds.{same_threshold}
-use Rattle.threshold.proofs.Sequence.{round-within, threshold-within, rests_or_not, given_back, stays-above, stays-below}
-use Rattle.threshold.proofs.Sequence.{comes-to-rest}
+use Rattle.threshold.proofs.Sequence.{round-within, threshold-within, rests_or_not, given_back, stays-above, stays-below, comes-to-rest}
 
 -- threshold k at rest
 abbrev pub RestsAt : ℕ → List ℕ → ℕ → Type 0

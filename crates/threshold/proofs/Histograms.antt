@@ -18,7 +18,7 @@ use Rattle.arithmetic.specs.Sums.{sum}
 use Rattle.answers.proofs.Refusals.{stops, goes_on}
 use Rattle.arithmetic.proofs.Sums.{sum_none, sum_more, sum_most, sum_same, sum_add}
 use Rattle.threshold.specs.Histogram.{added_at, count_of, total, Countable, tally, Counted}
-use Rattle.threshold.specs.inside.Asked.{added_up_to, Added}
+use Rattle.threshold.specs.Asked.{added_up_to, Added}
 
 -- ---- which values can be counted
 -- as many as may be can be counted if each is at most 2,040

@@ -34,8 +34,7 @@ count_refused : {n : ℕ} {histogram : List ℕ} {r : Tally} → 1 ≤ n → r �
 count_refused some is done = let e = ap (λ (t : Tally). t.number) is in omega arith
 
 -- 0 says that the values were counted
-pub when_counted : (values histogram : List ℕ) (r : Tally) → r.number ≡ 0 → CountIs values histogram r
-    → Countable values × Counted values r
+pub when_counted : (values histogram : List ℕ) (r : Tally) → r.number ≡ 0 → CountIs values histogram r → Countable values × Counted values r
 when_counted values histogram r done (inl a) = absurd (count_refused (lit≤ tt) a.1 done)
 when_counted values histogram r done (inr (places, inl a)) = absurd (count_refused (lit≤ tt) a.1 done)
 when_counted values histogram r done (inr (places, inr counted)) = counted
@@ -90,5 +89,4 @@ value_small h r done (inr (levels, inr (some, inr (few, d)))) =
 pub counted_has_one : (values : List ℕ) (counts : Tally) (r : Threshold) → Countable values → Counted values counts
     → TwoMeansIs counts.histogram r → Done 128 counts.histogram r
 counted_has_one values counts r ok counted is =
-    past (omega (arith, counted.total_is, ok.few))
-    (past (λ none. omega (arith, counted.total_is, ok.some, none)) (past counted.places is))
+    past (omega (arith, counted.total_is, ok.few)) (past (λ none. omega (arith, counted.total_is, ok.some, none)) (past counted.places is))

@@ -77,8 +77,7 @@ pub highest_is : (h : List ℕ) → 0 < total h → Greatest (Present h) (highes
 highest_is [] some = absurd (let none : ⊥ = omega (arith, some, total_none) in none)
 highest_is (c ∷ cs) some = go (eqb (total cs) 0) refl (highest_is cs)
   where
-    go : (b : Bool) → eqb (total cs) 0 ≡ b → (0 < total cs → Greatest (Present cs) (highest cs))
-        → Greatest (Present (c ∷ cs)) (highest (c ∷ cs))
+    go : (b : Bool) → eqb (total cs) 0 ≡ b → (0 < total cs → Greatest (Present cs) (highest cs)) → Greatest (Present (c ∷ cs)) (highest (c ∷ cs))
     go true e rest =
         let nothing : total cs ≡ 0 = eqb-true (total cs) 0 e in
         rw e (only_first c cs (omega (arith, some, total_first c cs, nothing)) nothing)
@@ -105,15 +104,15 @@ module _ (h : List ℕ) (some : 0 < total h) where
   highest-here v so_far there = omega (arith, (highest_is h some).most v (pos_of_ne-zero there))
 
 -- the start, from the two ends as they were found
-module _ (m : ℕ) (h : List ℕ) {low high : ℕ} (is_low : low ≡ lowest h) (is_high : high ≡ highest h) where
+module _ (m : ℕ) (h : List ℕ) {low high : ℕ} (is-low : low ≡ lowest h) (is-high : high ≡ highest h) where
   pub start-low : m < low → level low ≡ start m h
   unfolding start
-  start-low below = rw (← is_low, lt-ltb m low below)
+  start-low below = rw (← is-low, lt-ltb m low below)
 
   pub start-high : low ≤ m → high < m → level high ≡ start m h
   unfolding start
-  start-high from above = rw (← is_low, ← is_high, le-ltb m low from, lt-ltb high m above)
+  start-high from above = rw (← is-low, ← is-high, le-ltb m low from, lt-ltb high m above)
 
   pub start-usual : low ≤ m → m ≤ high → level m ≡ start m h
   unfolding start
-  start-usual from to = rw (← is_low, ← is_high, le-ltb m low from, le-ltb high m to)
+  start-usual from to = rw (← is-low, ← is-high, le-ltb m low from, le-ltb high m to)

@@ -44,8 +44,7 @@ module _ (h : List ℕ) (p q : ℕ → Bool) (n d : ℕ) (pos : 0 < d) (below : 
   sum-under =
       omega (
         arith,
-        over_le (length h) p (λ v. level_sum h v * d + count_of h v) (λ v. count_of h v * n)
-            (λ v t. omega (arith, mul-le-mul_right (count_of h v) (below v t))),
+        over_le (length h) p (λ v. level_sum h v * d + count_of h v) (λ v. count_of h v * n) (λ v t. omega (arith, mul-le-mul_right (count_of h v) (below v t))),
         over_add (length h) p (λ v. level_sum h v * d) (count_of h),
         over_times (length h) p (level_sum h) d,
         over_times (length h) p (count_of h) n,
@@ -55,14 +54,12 @@ module _ (h : List ℕ) (p q : ℕ → Bool) (n d : ℕ) (pos : 0 < d) (below : 
   sum-from =
       omega (
         arith,
-        over_le (length h) q (λ v. count_of h v * n) (λ v. level_sum h v * d)
-            (λ v t. omega (arith, mul-le-mul_right (count_of h v) (from v t))),
+        over_le (length h) q (λ v. count_of h v * n) (λ v. level_sum h v * d) (λ v t. omega (arith, mul-le-mul_right (count_of h v) (from v t))),
         over_times (length h) q (level_sum h) d,
         over_times (length h) q (count_of h) n,
       )
 
-  gap : (mean h p).numerator * (mean h q).denominator * d + (mean h p).denominator * (mean h q).denominator
-      ≤ (mean h q).numerator * (mean h p).denominator * d
+  gap : (mean h p).numerator * (mean h q).denominator * d + (mean h p).denominator * (mean h q).denominator ≤ (mean h q).numerator * (mean h p).denominator * d
   gap = omega (arith, mul-le-mul_right (mean h q).denominator sum-under, mul-le-mul_right (mean h p).denominator sum-from)
 
   -- the mean of p is not more than that of q
@@ -71,12 +68,10 @@ module _ (h : List ℕ) (p q : ℕ → Bool) (n d : ℕ) (pos : 0 < d) (below : 
 
   -- and the same only where there are no such levels q, or none p
   none_from : Proper (mean h p) → Equal (mean h p) (mean h q) → (mean h q).denominator ≡ 0
-  none_from some e =
-      eq_of_mul-eq-mul_right (mean h p).denominator some (mean h q).denominator 0 (omega (arith, gap, ap (λ (z : ℕ). z * d) e))
+  none_from some e = eq_of_mul-eq-mul_right (mean h p).denominator some (mean h q).denominator 0 (omega (arith, gap, ap (λ (z : ℕ). z * d) e))
 
   none-under : Proper (mean h q) → Equal (mean h p) (mean h q) → (mean h p).denominator ≡ 0
-  none-under some e =
-      eq_of_mul-eq-mul_right (mean h q).denominator some (mean h p).denominator 0 (omega (arith, gap, ap (λ (z : ℕ). z * d) e))
+  none-under some e = eq_of_mul-eq-mul_right (mean h q).denominator some (mean h p).denominator 0 (omega (arith, gap, ap (λ (z : ℕ). z * d) e))
 
 -- where T is not more than U, a level up to T is one up to U, and a level from U on is one from T on
 low_sub : (T U : Fraction) → Proper T → NotMore T U → Sub (low T) (low U)
@@ -150,37 +145,25 @@ module _ (h : List ℕ) (T U : Fraction) (pT : Proper T) (pU : Proper U) (l : No
       let none_above : sum_over (length h) above f ≡ 0 = omega (arith, low_parts f) in
       let none-beneath : sum_over (length h) beneath f ≡ 0 = omega (arith, high_parts f) in
       let nothing : (v : ℕ) → f v ≡ 0 → level_sum h v ≡ 0 = λ v e. rw (z v e) (omega arith) in
-      let A : low_sum h T ≡ low_sum h U =
-      omega (arith, low_parts (level_sum h), over_zero (length h) above f (level_sum h) nothing none_above) in
+      let A : low_sum h T ≡ low_sum h U = omega (arith, low_parts (level_sum h), over_zero (length h) above f (level_sum h) nothing none_above) in
       let B : low_number h T ≡ low_number h U = omega (arith, low_parts (count_of h), over_zero (length h) above f (count_of h) z none_above) in
-      let C : high_sum h T ≡ high_sum h U =
-      omega (arith, high_parts (level_sum h), over_zero (length h) beneath f (level_sum h) nothing none-beneath) in
-      let E : high_number h T ≡ high_number h U =
-      omega (arith, high_parts (count_of h), over_zero (length h) beneath f (count_of h) z none-beneath) in
+      let C : high_sum h T ≡ high_sum h U = omega (arith, high_parts (level_sum h), over_zero (length h) beneath f (level_sum h) nothing none-beneath) in
+      let E : high_number h T ≡ high_number h U = omega (arith, high_parts (count_of h), over_zero (length h) beneath f (count_of h) z none-beneath) in
       λ i. fraction (A i * E i + C i * B i) (2 * B i * E i)
 
   -- where the means are the same, so are the numbers of levels
   low-number : 0 < low_number h T → Equal (mean h (low T)) (mean h (low U)) → low_number h T ≡ low_number h U
   low-number some e =
       let same : Equal (mean h (low T)) (mean h above) = omega (arith, rw (low_parts (level_sum h), low_parts (count_of h)) at e) in
-      omega (
-        arith,
-        low_parts (count_of h),
-        none_from h (low T) above (suc T.numerator) T.denominator pT low-under above_from some same,
-      )
+      omega (arith, low_parts (count_of h), none_from h (low T) above (suc T.numerator) T.denominator pT low-under above_from some same)
 
   high-number : 0 < high_number h U → Equal (mean h (high T)) (mean h (high U)) → high_number h T ≡ high_number h U
   high-number some e =
       let same : Equal (mean h beneath) (mean h (high U)) = omega (arith, rw (high_parts (level_sum h), high_parts (count_of h)) at e) in
-      omega (
-        arith,
-        high_parts (count_of h),
-        none-under h beneath (high U) U.numerator U.denominator pU beneath-under high-from some same,
-      )
+      omega (arith, high_parts (count_of h), none-under h beneath (high U) U.numerator U.denominator pU beneath-under high-from some same)
 
   -- a round gives equal thresholds as equal pairs: in order
-  pair : 0 < low_number h T → 0 < high_number h T → 0 < low_number h U → 0 < high_number h U → Equal (round h T) (round h U)
-      → round h T ≡ round h U
+  pair : 0 < low_number h T → 0 < high_number h T → 0 < low_number h U → 0 < high_number h U → Equal (round h T) (round h U) → round h T ≡ round h U
   unfolding round
   pair b e b' e' s =
       same-split (count_of h) (λ v z. z)

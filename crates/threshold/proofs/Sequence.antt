@@ -47,8 +47,7 @@ stands_still b f in-it (inr falls) = falling_still b f falls (λ k. (in-it k).0)
 -- within the levels present or not, at rest or not
 unfoldable pub within_or_not : (h : List ℕ) (T : Fraction) → Dec (Within h T)
 within_or_not h T =
-    let test : Dec (Proper T × (NotMore (level (lowest h)) T × NotMore T (level (highest h)))) =
-    Logic.Dec.and (dec_le _ _) (Logic.Dec.and (dec_le _ _) (dec_le _ _)) in
+    let test : Dec (Proper T × (NotMore (level (lowest h)) T × NotMore T (level (highest h)))) = Logic.Dec.and (dec_le _ _) (Logic.Dec.and (dec_le _ _) (dec_le _ _)) in
     elim test [
       | yes p ↦ yes (record { proper = p.0; from_lowest = p.1.0; to_highest = p.1.1 })
       | no f ↦ no (λ w. f (w.proper, (w.from_lowest, w.to_highest)))
@@ -87,8 +86,7 @@ module _ (h : List ℕ) (T U : Fraction) (pT : Proper T) (pU : Proper U) where
       let x = low-more h T U pT pU l one in
       let y = high-fewer h T U pT pU l one in
       let z = at_most_all (length h) (high T) in
-      same-split h T U pT pU l one (λ v z. absurd (let none : ⊥ =
-      omega (arith, z) in none)) (omega (arith, x, y, z)) (omega (arith, x, y, z))
+      same-split h T U pT pU l one (λ v z. absurd (let none : ⊥ = omega (arith, z) in none)) (omega (arith, x, y, z)) (omega (arith, x, y, z))
 
 -- and whichever of the two is larger
 same_position : (h : List ℕ) (T U : Fraction) → Proper T → Proper U → position h T ≡ position h U → round h T ≡ round h U
@@ -227,8 +225,7 @@ module _ (h : List ℕ) (some : 0 < total h) where
     stays-below R r = in_order (λ k. R) (threshold m h) (resting R r) thresholds
 
     -- the sequence goes one way
-    pub one_way : ((k : ℕ) → NotMore (threshold m h k) (threshold m h (suc k)))
-        ⊎ ((k : ℕ) → NotMore (threshold m h (suc k)) (threshold m h k))
+    pub one_way : ((k : ℕ) → NotMore (threshold m h k) (threshold m h (suc k))) ⊎ ((k : ℕ) → NotMore (threshold m h (suc k)) (threshold m h k))
     one_way =
         ⊎_elim
         (λ l. inl (in_order (threshold m h) (λ k. threshold m h (suc k)) thresholds later l))
@@ -242,8 +239,7 @@ module _ (h : List ℕ) (some : 0 < total h) where
         let T : Fraction = threshold m h k in
         let U : Fraction = threshold m h (suc k) in
         let w : Within h U = threshold-within m (suc k) in
-        given_back (suc k) (subst (λ (R : Fraction). Equal R U)
-        (same_position h T U (threshold-within m k).proper w.proper (sym e)) refl)
+        given_back (suc k) (subst (λ (R : Fraction). Equal R U) (same_position h T U (threshold-within m k).proper w.proper (sym e)) refl)
 
     -- the positions go one way too
     positions-one-way : ((k : ℕ) → position h (threshold m h k) ≤ position h (threshold m h (suc k)))
@@ -257,7 +253,5 @@ module _ (h : List ℕ) (some : 0 < total h) where
     -- so the sequence comes to rest, after at most 2·n − 1 rounds
     pub comes-to-rest : (k : ℕ) × (k ≤ 2 * length h - 1) × Rests h (threshold m h k)
     comes-to-rest =
-        let r =
-        stands_still (2 * length h - 1) (λ k. position h (threshold m h k))
-        (λ k. position-within (threshold m h k) (threshold-within m k)) positions-one-way in
+        let r = stands_still (2 * length h - 1) (λ k. position h (threshold m h k)) (λ k. position-within (threshold m h k) (threshold-within m k)) positions-one-way in
         (suc r.0, r.1, rests-there r.0 r.2)

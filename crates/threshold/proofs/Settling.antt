@@ -11,7 +11,7 @@ use Rattle.arithmetic.specs.Fractions.{fraction, Equal}
 use Rattle.arithmetic.proofs.Greatest.{not_yet}
 use Rattle.threshold.specs.Histogram.{total}
 use Rattle.threshold.specs.TwoMeans.{level, highest, start, round, Within, threshold, answered, Done}
-use Rattle.threshold.specs.inside.Asked.{Small}
+use Rattle.threshold.specs.Asked.{Small}
 use Rattle.threshold.proofs.Present.{highest-below}
 use Rattle.threshold.proofs.Rounds.{same_pair}
 use Rattle.threshold.proofs.Tables.{denominator_small}

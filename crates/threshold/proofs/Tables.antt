@@ -4,8 +4,7 @@ use mathlib.Core.Path.{◌≡◌, sym, ◌∙◌}
 use mathlib.Core.Bool.{Bool, true, false, cond, not}
 use mathlib.Core.List.{List}
 use Prim.Native.Nat.{ℕ, zero, suc, ◌+◌, ◌-◌, ◌*◌, ◌/◌, ◌<◌, ◌≤◌}
-use native.Mathlib.Nat.{le_refl, le_trans, le_of_lt, suc-mul, mul-add, mul-le-mul, mul-le-mul_right, div-mul-le_self, le-div_iff_mul-le}
-use native.Mathlib.Nat.{div-lt_iff_lt-mul}
+use native.Mathlib.Nat.{le_refl, le_trans, le_of_lt, suc-mul, mul-add, mul-le-mul, mul-le-mul_right, div-mul-le_self, le-div_iff_mul-le, div-lt_iff_lt-mul}
 use native.Mathlib.Omega.{arith}
 use lib.ListN.{length, get_or, set}
 use borrow.Author.Tests.{le-leb, lt-leb}
@@ -17,7 +16,7 @@ use Rattle.arithmetic.proofs.Lists.{Written, written_none, written_more}
 use Rattle.arithmetic.proofs.Sums.{sum_none, sum_more, sum_most, sum_same, sum_part}
 use Rattle.threshold.specs.Histogram.{count_of, total}
 use Rattle.threshold.specs.TwoMeans.{highest, low, high, level_sum, round, Within}
-use Rattle.threshold.specs.inside.Asked.{Filled, Tables, Small}
+use Rattle.threshold.specs.Asked.{Filled, Tables, Small}
 use Rattle.threshold.proofs.Present.{highest-below}
 use Rattle.threshold.proofs.Picks.{over_rest, over_part}
 use Rattle.threshold.proofs.Rounds.{low_sum, low_number, high_sum, high_number}
@@ -65,8 +64,7 @@ module _ {h below sums : List ℕ} {v : ℕ} (f : Filled h v below sums) where
   sums-written = record { places = f.sums_long; are = λ k b. f.sums_are k (omega arith) }
 
 -- nothing lies below level 0
-pub filling_none : (h below sums : List ℕ) → length below ≡ length h + 1 → length sums ≡ length h + 1
-    → Filling h 0 (set below 0 0) (set sums 0 0) 0 0
+pub filling_none : (h below sums : List ℕ) → length below ≡ length h + 1 → length sums ≡ length h + 1 → Filling h 0 (set below 0 0) (set sums 0 0) 0 0
 filling_none h below sums long-below long-sums =
     let number_is : 0 ≡ number_below h 0 = sym (sum_none (count_of h)) in
     let added_is : 0 ≡ sum_below h 0 = sym (sum_none (level_sum h)) in
@@ -78,12 +76,6 @@ filling_none h below sums long-below long-sums =
       number_is = number_is;
       added_is = added_is;
     }
-
--- what a turn adds fits 64 bits
-pub record Room (h : List ℕ) (v number added : ℕ) : Type 0 where
-  pub number_fits : number + count_of h v ≤ 8796093020160
-  pub level_sum_fits : level_sum h v ≤ 8796093020160
-  pub added_fits : added + level_sum h v ≤ 18014398505287680
 
 module _ {h below sums : List ℕ} {v number added : ℕ} (so_far : Filling h v below sums number added) where
   -- one level more
@@ -105,16 +97,18 @@ module _ {h below sums : List ℕ} {v number added : ℕ} (so_far : Filling h v 
   pub filling-all : v ≤ length h → length h ≤ v → Tables h below sums
   filling-all up_to_lem past = let e : v ≡ length h = omega arith in rw e at so_far.filled
 
-  -- with counts of 32 bits at 2,048 levels
-  pub turn-room : AtMost 4294967295 h → length h ≤ 2048 → v < length h → Room h v number added
-  turn-room counts levels turn =
-      let most : sum v (count_of h) ≤ 8796093020160 = omega (arith, sum_most 4294967295 v (count_of h) counts) in
-      let here : level_sum h v ≤ 8796093020160 = omega (arith, mul-le-mul {n₁ = v} {n₂ = 2048} (omega arith) (counts v)) in
-      record {
-        number_fits = omega (arith, so_far.number_is, sum_most 4294967295 v (count_of h) counts, counts v);
-        level_sum_fits = here;
-        added_fits = omega (arith, so_far.added_is, sum_of_levels v (count_of h), mul-le-mul {n₁ = v} {n₂ = 2047} (omega arith) most);
-      }
+  -- with counts of 32 bits at 2,048 levels, what is stored fits 64 bits
+  module _ (counts : AtMost 4294967295 h) (levels : length h ≤ 2048) (turn : v < length h) where
+    pub number-room : number + count_of h v ≤ 8796093020160
+    number-room = omega (arith, so_far.number_is, sum_most 4294967295 v (count_of h) counts, counts v)
+
+    pub level-sum-room : level_sum h v ≤ 8796093020160
+    level-sum-room = omega (arith, mul-le-mul {n₁ = v} {n₂ = 2048} (omega arith) (counts v))
+
+    pub added-room : added + level_sum h v ≤ 18014398505287680
+    added-room =
+        let most : sum v (count_of h) ≤ 8796093020160 = omega (arith, sum_most 4294967295 v (count_of h) counts) in
+        omega (arith, so_far.added_is, sum_of_levels v (count_of h), mul-le-mul {n₁ = v} {n₂ = 2047} (omega arith) most, level-sum-room)
 
 -- ---- reading
 -- a test that picks the levels below k
@@ -154,12 +148,8 @@ module _ (T : Fraction) (proper : Proper T) where
   high-cut-whole : whole T * T.denominator ≡ T.numerator → Cut (λ v. not (high T v)) (whole T)
   high-cut-whole exact =
       record {
-        below =
-            λ v (h : v < whole T). rw
-            (lt-leb T.numerator (v * T.denominator) (omega (arith, exact, mul-le-mul_right T.denominator h)));
-        past =
-            λ v (h : whole T ≤ v). rw
-            (le-leb T.numerator (v * T.denominator) (omega (arith, exact, mul-le-mul_right T.denominator h)));
+        below = λ v (h : v < whole T). rw (lt-leb T.numerator (v * T.denominator) (omega (arith, exact, mul-le-mul_right T.denominator h)));
+        past = λ v (h : whole T ≤ v). rw (le-leb T.numerator (v * T.denominator) (omega (arith, exact, mul-le-mul_right T.denominator h)));
       }
 
   -- and those up to its whole part, where it is not
@@ -198,8 +188,7 @@ module _ (h : List ℕ) (T : Fraction) (some : 0 < total h) (within : Within h T
   places-part between is = placed (omega arith) (rw is (high-cut-part T within.proper between))
 
 -- what is read there, from either table
-module _ (f : ℕ → ℕ) (h table : List ℕ) (right : (v : ℕ) → v ≤ length h → get_or table v 0 ≡ sum v f) {T : Fraction} {from : ℕ}
-    (at : Places h T from) where
+module _ (f : ℕ → ℕ) (h table : List ℕ) (right : (v : ℕ) → v ≤ length h → get_or table v 0 ≡ sum v f) {T : Fraction} {from : ℕ} (at : Places h T from) where
   low_read : get_or table (whole T + 1) 0 ≡ sum_over (length h) (low T) f
   low_read = right (whole T + 1) at.up_to_in ∙ sym (cut_sum at.up_to_is f at.up_to_in)
 

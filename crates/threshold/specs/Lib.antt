@@ -1,4 +1,4 @@
 pub mod Histogram
 pub mod TwoMeans
-pub mod inside
+pub mod Asked
 pub mod Worked

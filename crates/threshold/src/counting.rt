@@ -3,7 +3,7 @@
 ghost use Rattle.std.specs.Prelude.{◌≡◌, true, false, length};
 ghost use Rattle.answers.specs.Refusals.{Unless};
 ghost use Rattle.threshold.specs.Histogram.{Countable};
-ghost use Rattle.threshold.specs.inside.Asked.{Added};
+ghost use Rattle.threshold.specs.Asked.{Added};
 
 use arithmetic::values;
 

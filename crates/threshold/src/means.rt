@@ -1,9 +1,10 @@
 // The rounds until the threshold rests (document 01: "One round replaces T by half the sum of the
 // mean of all levels ≤ T and the mean of all levels ≥ T").
-ghost use Rattle.std.specs.Prelude.{◌≡◌};
-ghost use Rattle.arithmetic.specs.inside.Pairs.{unlike};
-ghost use Rattle.threshold.specs.TwoMeans.{round as round_of, Done};
-ghost use Rattle.threshold.specs.inside.Asked.{Places, Tables, Ready, Rounds};
+ghost use Rattle.std.specs.Prelude.{◌≡◌, ◌+◌, ◌<◌, ◌≤◌, length};
+ghost use Rattle.arithmetic.specs.Fractions.{unlike};
+ghost use Rattle.threshold.specs.Histogram.{total};
+ghost use Rattle.threshold.specs.TwoMeans.{round as round_of, Within, Done};
+ghost use Rattle.threshold.specs.Asked.{Tables, Small};
 
 use crate::{Threshold, ends};
 use answers::table;
@@ -12,7 +13,8 @@ use arithmetic::Fraction;
 // Two tables, with a place for each level and for the one past the last: how many values lie below
 // it, and the sum of their levels. With them a round adds nothing up.
 pub(crate) fn fill(histogram: &[u32], below: &mut [u64], sums: &mut [u64])
-    requires { Places histogram.now below.old sums.old }
+    requires histogram_len_bound { length histogram.now ≤ 2_048 }
+    requires below_len { (length below.old ≡ length histogram.now + 1) × (length sums.old ≡ length histogram.now + 1) }
     ensures { Tables histogram.now below.new sums.new }
 {
     let mut number = 0u64;
@@ -33,7 +35,8 @@ pub(crate) fn fill(histogram: &[u32], below: &mut [u64], sums: &mut [u64])
 // One round from t. The levels up to t are those below the next whole number above t; the levels
 // from t on are those that are not below t, rounded up.
 fn round(histogram: &[u32], below: &[u64], sums: &[u64], t: Fraction) -> Fraction
-    requires { Rounds histogram.now below.now sums.now t }
+    requires tables { Tables histogram.now below.now sums.now × Small histogram.now }
+    requires histogram_nonzero { (0 < total histogram.now) × Within histogram.now t }
     ensures { result ≡ round_of histogram.now t }
 {
     let end = histogram.len();
@@ -60,7 +63,8 @@ fn round(histogram: &[u32], below: &[u64], sums: &[u64], t: Fraction) -> Fractio
 // two pairs, which might have 90 bits, is needed. The start, v/1, is written over the first round's
 // denominator, so that it too is compared as a pair.
 pub(crate) fn settle(histogram: &[u32], below: &[u64], sums: &[u64], usual: usize) -> Threshold
-    requires { Ready histogram.now below.now sums.now }
+    requires tables { Tables histogram.now below.now sums.now × Small histogram.now }
+    requires histogram_nonzero { 0 < total histogram.now }
     ensures { Done usual histogram.now result }
 {
     let first = ends::start(histogram, usual) as u64;

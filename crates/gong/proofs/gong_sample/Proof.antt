@@ -8,18 +8,26 @@ use Rattle.gong.proofs.Laws.{sampled_on}
 use Rattle.gong.proofs.gong_sample.Statement.{statement}
 use Rattle.gong.proofs.gong_sample.Tie as tie
 
+of-requires : tie.Need-of-requires
+of-requires c κs = search rules
+
+of-requires-2 : tie.Need-of-requires-2
+of-requires-2 c κs = search rules
+
+sample-requires : tie.Need-sample-requires
+sample-requires c κs = search rules
+
 returns : tie.Need-returns
 returns c =
-    let y-given = c.before.before in
-    let x-given = y-given.before in
-    let at-start = x-given.before.before in
-    let given = at-start.args in
-    let sampled = c.before.sample in
-    sampled_on given.levels.now given.width given.height sampled.result
-    (x-given.of.ensures ∙ ap sixteenths (to_z-of_z w64 given.x at-start.ranges.x))
-    (y-given.of2.ensures ∙ ap sixteenths (to_z-of_z w64 given.y at-start.ranges.y))
-    (to_z-of_z w64 sampled.result.value (record { sfits = c.struct_told.given.1.0.1 }))
-    sampled.ensures
+    let r = c.before.sample in
+    let two = c.before.before in
+    let b = two.before.before.before in
+    let a = b.args in
+    sampled_on a.levels.now a.width a.height r.result
+    (two.before.of.ensures ∙ ap sixteenths (to_z-of_z w64 a.x b.ranges.x))
+    (two.of2.ensures ∙ ap sixteenths (to_z-of_z w64 a.y b.ranges.y))
+    (to_z-of_z w64 r.result.value (record { sfits = c.struct_told.given.1.0.1 }))
+    r.ensures
 
 pub gong-sample-spec : {M : Type 1} → statement M
-gong-sample-spec = tie.close (tie.spec (λ c κs. search rules) (λ c κs. search rules) (λ c κs. search rules) returns)
+gong-sample-spec = tie.close (tie.spec of-requires of-requires-2 sample-requires returns)

@@ -8,6 +8,9 @@ use Rattle.answers.proofs.Refusals.{stops, goes_on}
 use Rattle.judge.proofs.measurable.Statement.{statement}
 use Rattle.judge.proofs.measurable.Tie as tie
 
+returns : tie.Need-returns
+returns c = stops (λ ok. omega arith) refl
+
 returns-2 : tie.Need-returns-2
 returns-2 c =
     let rest = c.before.args.side % 4 in
@@ -17,4 +20,4 @@ returns-2 c =
     ]
 
 pub measurable-spec : {M : Type 1} → statement M
-measurable-spec = tie.close (tie.spec (λ c. stops (λ ok. omega arith) refl) returns-2)
+measurable-spec = tie.close (tie.spec returns returns-2)

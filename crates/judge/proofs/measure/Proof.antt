@@ -10,77 +10,135 @@ use lib.Seq.{length-take-le}
 use Rattle.answers.proofs.Refusals.{told_no, told_yes}
 use Rattle.picture.proofs.Shapes.{pixels}
 use Rattle.filter.proofs.Outcomes.{Fits, fits}
-use Rattle.judge.proofs.Measuring.{refused-for-sizes, refused-by-five, Ready, pictured, done}
+use Rattle.judge.specs.Measure.{MeasurableSide}
+use Rattle.judge.proofs.Measuring.{refused-for-sizes, refused-by-five, tiled, done}
 use Rattle.judge.proofs.measure.Statement.{statement}
 use Rattle.judge.proofs.measure.Tie as tie
 
+sizes-requires : tie.Need-sizes-requires
+sizes-requires c κs = search rules
+
+refuse-requires : tie.Need-refuse-requires
+refuse-requires c κs = search rules
+
 returns : tie.Need-returns
 returns c =
-    let sizes = c.before.before.sizes in
-    refused-for-sizes _ _ _ _ _ sizes.result c.before.if1.true c.refuse.ensures sizes.ensures
+    let s = c.before.before in
+    let a = s.before.before.before.before.args in
+    refused-for-sizes a.levels.now a.width a.height a.output.now a.work.now s.sizes.result c.refuse.result c.before.if1.true c.refuse.ensures s.sizes.ensures
 
 -- past the first test the sizes fit
-module _ (past-sizes : tie.Else1) where
-  abbrev slices-known : tie.After-slice-known2
-  slices-known = past-sizes.before.before
+fit : (c : tie.Else1) → let a = c.before.before.before.before.before.args in Fits (length a.levels.now) a.width a.height (length a.output.now) (length a.work.now)
+fit c = let s = c.before in fits _ _ _ _ _ s.sizes.result c.if1.false s.sizes.ensures
 
-  abbrev at-start : tie.Start
-  at-start = slices-known.before.before.before
+measurable-requires : tie.Need-measurable-requires
+measurable-requires c κs = search rules
 
-  fit : let a = at-start.args in Fits (length a.levels.now) a.width a.height (length a.output.now) (length a.work.now)
-  fit = fits _ _ _ _ _ past-sizes.before.sizes.result past-sizes.if1.left past-sizes.before.sizes.ensures
+refuse-requires-2 : tie.Need-refuse-requires-2
+refuse-requires-2 c κs = search rules
 
--- the width is refused
 returns-2 : tie.Need-returns-2
 returns-2 c =
-    let width-asked = c.before.before in
-    let not-width = told_no width-asked.measurable.ensures c.before.if2.true in
-    refused-by-five _ _ _ _ _ (fit width-asked.before) (λ sides. not-width sides.0) c.refuse2.ensures
+    let d = c.before.before.before in
+    let a = d.before.before.before.before.before.args in
+    refused-by-five a.levels.now a.width a.height a.output.now a.work.now (fit d) c.refuse2.result (λ sides. told_no c.before.before.measurable.ensures c.before.if2.true sides.0) c.refuse2.ensures
 
--- the height is
+measurable-requires-2 : tie.Need-measurable-requires-2
+measurable-requires-2 c κs = search rules
+
+refuse-requires-3 : tie.Need-refuse-requires-3
+refuse-requires-3 c κs = search rules
+
 returns-3 : tie.Need-returns-3
 returns-3 c =
-    let height-asked = c.before.before in
-    let past-sizes = height-asked.before.before.before in
-    let not-height = told_no height-asked.measurable2.ensures c.before.if3.true in
-    refused-by-five _ _ _ _ _ (fit past-sizes) (λ sides. not-height sides.1) c.refuse3.ensures
+    let d = c.before.before.before.before.before in
+    let a = d.before.before.before.before.before.args in
+    refused-by-five a.levels.now a.width a.height a.output.now a.work.now (fit d) c.refuse3.result (λ sides. told_no c.before.before.measurable2.ensures c.before.if3.true sides.1) c.refuse3.ensures
 
--- the picture is filtered, and both buffers are back
-module _ (buffers-back : tie.After-slice-known4) where
-  abbrev output-back : tie.After-slice-known3
-  output-back = buffers-back.before.before
+filter-requires : tie.Need-filter-requires
+filter-requires c κs = search rules
 
-  abbrev filtered : tie.After-filter
-  filtered = output-back.before.before
+-- after the filter: the sizes, the sides, and its promise
+module _ (c : tie.After-slice-known4) where
+  abbrev called : tie.After-filter
+  called = c.before.before.before.before
 
-  abbrev past-height : tie.Else3
-  past-height = filtered.before.before.before
-
-  abbrev past-width : tie.Else2
-  past-width = past-height.before.before
+  abbrev past-five : tie.Else3
+  past-five = called.before.before.before
 
   abbrev sizes-fit : tie.Else1
-  sizes-fit = past-width.before.before
+  sizes-fit = past-five.before.before.before.before
+
+  abbrev start : tie.Start
+  start = sizes-fit.before.before.before.before.before
+
+  abbrev width : ℕ
+  width = start.args.width
+
+  abbrev height : ℕ
+  height = start.args.height
 
   abbrev output : List ℕ
-  output = filtered.filter.last.1.1.1.0
+  output = called.filter.last.1.1.1.0
 
-  ready : let a = (at-start sizes-fit).args in
-      Ready a.levels.now a.width a.height a.output.now a.work.now
-      filtered.filter.result output filtered.filter.last.1.1.1.1.0
-  ready =
-      let wide = told_yes past-width.before.measurable.ensures past-width.if2.left in
-      let high = told_yes past-height.before.measurable2.ensures past-height.if3.left in
-      record { fits = fit sizes-fit; sides = (wide, high); promise = filtered.filter.ensures }
+  fit-here : Fits (length start.args.levels.now) width height (length start.args.output.now) (length start.args.work.now)
+  fit-here = fit sizes-fit
 
-  long : (at-start sizes-fit).args.width * (at-start sizes-fit).args.height ≤ length output
-  long = rw filtered.filter.kept.1.1.1.0 (fit sizes-fit).long_output
+  measurable : MeasurableSide width × MeasurableSide height
+  measurable =
+      let wide = past-five.before.before in
+      (told_yes wide.before.measurable.ensures wide.if2.left, told_yes past-five.before.measurable2.ensures past-five.if3.left)
+
+  long : width * height ≤ length output
+  long = rw called.filter.kept.1.1.1.0 fit-here.long_output
+
+mul-n : tie.Need-overflow-mul-n
+mul-n c = omega (arith, pixels (width c) (height c) (fit-here c).shape.sides)
+
+slice-reshare-prefix-judge-picture : tie.Need-slice-reshare-prefix-judge-picture
+slice-reshare-prefix-judge-picture c = long c
+
+slice-aggregate-judge-picture : tie.Need-slice-aggregate-judge-picture
+slice-aggregate-judge-picture c = sym (length-take-le _ _ (long c.before))
+
+judge-picture-requires : tie.Need-judge-picture-requires
+judge-picture-requires c κs =
+    let d = c.before in
+    let a = (start d).args in
+    let g = (called d).filter in
+    (tiled a.levels.now a.width a.height a.output.now a.work.now (fit-here d) (measurable d) g.result (output d) g.last.1.1.1.1.0 g.ensures, (fit-here d).shape.all_levels)
+
+same_length : tie.Need-same-length
+same_length c = search rules
+
+same-length-2 : tie.Need-same-length-2
+same-length-2 c = search rules
+
+returns-4 : tie.Need-returns-4
+returns-4 c =
+    let d = c.before.before in
+    let a = (start d).args in
+    let g = (called d).filter in
+    done a.levels.now a.width a.height a.output.now a.work.now (fit-here d) (measurable d) g.result (output d) g.last.1.1.1.1.0 g.ensures c.judge-picture.result c.judge-picture.ensures
 
 pub measure-spec : {M : Type 1} → statement M
 measure-spec =
     tie.close
-    (tie.spec (λ c κs. search rules) (λ c κs. search rules) returns (λ c κs. search rules) (λ c κs. search rules)
-    returns-2 (λ c κs. search rules) (λ c κs. search rules) returns-3 (λ c κs. search rules)
-    (λ c. omega (arith, pixels _ _ (fit (sizes-fit c)).shape.sides)) (λ c. long c)
-    (λ c. sym (length-take-le _ _ (long c.before))) (λ c κs. pictured (ready c.before))
-    (λ c. search rules) (λ c. search rules) (λ c. done (ready c.before.before) c.judge-picture.ensures))
+    (tie.spec
+    sizes-requires
+    refuse-requires
+    returns
+    measurable-requires
+    refuse-requires-2
+    returns-2
+    measurable-requires-2
+    refuse-requires-3
+    returns-3
+    filter-requires
+    mul-n
+    slice-reshare-prefix-judge-picture
+    slice-aggregate-judge-picture
+    judge-picture-requires
+    same_length
+    same-length-2
+    returns-4)

@@ -1,48 +1,65 @@
 -- `judge::ranges` meets its contract: each test is one end of a range, in the order of the definition. Assumes nothing.
-use mathlib.Core.Path.{◌≡◌, refl}
-use Prim.Native.Nat.{ℕ}
+use mathlib.Core.Path.{refl}
 use native.Mathlib.Omega.{arith}
-use Rattle.answers.specs.Refusals.{Unless}
 use Rattle.answers.proofs.Refusals.{stops, goes_on}
 use Rattle.units.specs.Units.{eighths}
-use Rattle.judge.specs.Judge.{InRange, DarkInRange, Tested}
+use Rattle.judge.specs.Judge.{InRange}
 use Rattle.judge.proofs.ranges.Statement.{statement}
 use Rattle.judge.proofs.ranges.Tie as tie
 
+returns : tie.Need-returns
+returns c = stops (λ ok. omega (arith, ok)) refl
+
+returns-2 : tie.Need-returns-2
+returns-2 c = stops (λ ok. omega (arith, ok)) refl
+
+returns-3 : tie.Need-returns-3
+returns-3 c = stops (λ ok. omega (arith, ok)) refl
+
+returns-4 : tie.Need-returns-4
+returns-4 c = stops (λ ok. omega (arith, ok)) refl
+
+returns-5 : tie.Need-returns-5
+returns-5 c = stops (λ ok. omega (arith, ok)) refl
+
 -- past the first five tests the four are in range
-module _ (past-input : tie.Else5) where
-  abbrev past-count : tie.Else2
-  past-count = past-input.before.before.before
+taken : (c : tie.Else5) → let a = c.before.before.before.before.before.args in InRange a.count (eighths a.bright) (eighths a.dark) a.spread
+taken c = record { count_low = omega arith; count_high = omega arith; bright_high = omega arith; dark_high = omega arith; spread_high = omega arith }
 
-  in_range : let a = past-count.before.before.args in InRange a.count (eighths a.bright) (eighths a.dark) a.spread
-  in_range =
-      record {
-        count_low = omega arith;
-        count_high = omega arith;
-        bright_high = omega arith;
-        dark_high = omega arith;
-        spread_high = omega arith;
-      }
+returns-6 : tie.Need-returns-6
+returns-6 c = goes_on (taken c.before) (stops (λ ok. omega (arith, ok)) refl)
 
--- past the next two M is in its range, and m is next
-module _ (past-bright : tie.Else7) where
-  abbrev past-four : tie.Else5
-  past-four = past-bright.before.before
+returns-7 : tie.Need-returns-7
+returns-7 c = goes_on (taken c.before.before) (stops (λ ok. omega (arith, ok)) refl)
 
-  on-to-dark : (r : ℕ) → let a = (past-count past-four).before.before.args in
-      Unless (DarkInRange (eighths a.dark)) (r ≡ 7) (Unless (¬ (a.spread ≡ 0)) (r ≡ 8) (r ≡ 0))
-      → Tested a.count (eighths a.bright) (eighths a.dark) a.spread (λ n. r ≡ n) (r ≡ 0)
-  on-to-dark r rest = goes_on (in_range past-four) (goes_on (omega arith, omega arith) rest)
+returns-8 : tie.Need-returns-8
+returns-8 c = goes_on (taken c.before.before.before) (goes_on (omega arith, omega arith) (stops (λ ok. omega (arith, ok)) refl))
+
+returns-9 : tie.Need-returns-9
+returns-9 c = goes_on (taken c.before.before.before.before) (goes_on (omega arith, omega arith) (stops (λ ok. omega (arith, ok)) refl))
+
+returns-10 : tie.Need-returns-10
+returns-10 c =
+    goes_on (taken c.before.before.before.before.before)
+    (goes_on (omega arith, omega arith) (goes_on (omega arith, omega arith) (stops (λ some. some c.if10.taken) refl)))
+
+returns-11 : tie.Need-returns-11
+returns-11 c =
+    goes_on (taken c.before.before.before.before.before)
+    (goes_on (omega arith, omega arith) (goes_on (omega arith, omega arith) (goes_on c.if10.left refl)))
 
 pub ranges-spec : {M : Type 1} → statement M
 ranges-spec =
     tie.close
-    (tie.spec (λ c. stops (λ ok. omega (arith, ok)) refl) (λ c. stops (λ ok. omega (arith, ok)) refl)
-    (λ c. stops (λ ok. omega (arith, ok)) refl) (λ c. stops (λ ok. omega (arith, ok)) refl)
-    (λ c. stops (λ ok. omega (arith, ok)) refl)
-    (λ c. goes_on (in_range c.before) (stops (λ ok. omega (arith, ok)) refl))
-    (λ c. goes_on (in_range c.before.before) (stops (λ ok. omega (arith, ok)) refl))
-    (λ c. on-to-dark c.before 7 (stops (λ ok. omega (arith, ok)) refl))
-    (λ c. on-to-dark c.before.before 7 (stops (λ ok. omega (arith, ok)) refl))
-    (λ c. on-to-dark c.before.before.before 8 (goes_on (omega arith, omega arith) (stops (λ some. some c.if10.taken) refl)))
-    (λ c. on-to-dark c.before.before.before 0 (goes_on (omega arith, omega arith) (goes_on c.if10.left refl))))
+    (tie.spec
+    returns
+    returns-2
+    returns-3
+    returns-4
+    returns-5
+    returns-6
+    returns-7
+    returns-8
+    returns-9
+    returns-10
+    returns-11)

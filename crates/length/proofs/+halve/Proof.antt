@@ -26,27 +26,55 @@ halve-at t = and 0 halve-kinds.ps (is 0 halve-kinds.ps μ-halve t) halve.Pre
 abbrev halve-below : ℕ → In 0 halve-kinds.ps
 halve-below t = and 0 halve-kinds.ps (falls 0 halve-kinds.ps ◌<◌ μ-halve t) halve.Pre
 
--- The two ways on: the middle is not too long, and the upper half is left; or it is, and the lower one. (`.pre` has the measure before
--- what is asked.)
-upper : (t : ℕ) → halve-lts.Need-halve-requires (halve-below t, halve.Post) (halve-at t) halve.Post
-upper t c κs =
-    let asked = c.before.before.requires.1 in
-    (omega arith, record { between = upper-half asked.between c.if2.true; room = asked.room })
+halve-sub-if1 : (t : ℕ) → halve-lts.Need-overflow-sub-if1 (halve-below t, halve.Post) (halve-at t) halve.Post
+halve-sub-if1 t c = omega (arith, not-empty c.requires.1.0)
 
-lower : (t : ℕ) → halve-lts.Need-halve-requires-2 (halve-below t, halve.Post) (halve-at t) halve.Post
-lower t c κs =
-    let at-start = c.before.before in
-    let shorter = lower-half at-start.requires.1.between (falling at-start.args.t) (not-le_of_lt c.if2.false) in
-    (omega arith, record { between = shorter; room = omega arith })
+halve-returns : (t : ℕ) → halve-lts.Need-returns (halve-below t, halve.Post) (halve-at t) halve.Post
+halve-returns t c = narrowed c.before.requires.1.0 (omega arith)
+
+halve-sub-mid : (t : ℕ) → halve-lts.Need-overflow-sub-mid (halve-below t, halve.Post) (halve-at t) halve.Post
+halve-sub-mid t c = omega (arith, not-empty c.before.requires.1.0)
+
+halve-add-mid : (t : ℕ) → halve-lts.Need-overflow-add-mid (halve-below t, halve.Post) (halve-at t) halve.Post
+halve-add-mid t c = omega (arith, not-empty c.before.requires.1.0)
+
+halve-mul-if2 : (t : ℕ) → halve-lts.Need-overflow-mul-if2 (halve-below t, halve.Post) (halve-at t) halve.Post
+halve-mul-if2 t c = omega (arith, room c.before.args.lo c.before.args.hi (omega arith))
+
+halve-mul-if2-2 : (t : ℕ) → halve-lts.Need-overflow-mul-if2-2 (halve-below t, halve.Post) (halve-at t) halve.Post
+halve-mul-if2-2 t c = omega (arith, room c.before.args.lo c.before.args.hi (omega arith))
+
+halve-halve-requires : (t : ℕ) → halve-lts.Need-halve-requires (halve-below t, halve.Post) (halve-at t) halve.Post
+halve-halve-requires t c κs =
+    let s = c.before.before in
+    (omega arith, (upper-half s.requires.1.0 c.if2.true, s.requires.1.1))
+
+halve-halve-requires-2 : (t : ℕ) → halve-lts.Need-halve-requires-2 (halve-below t, halve.Post) (halve-at t) halve.Post
+halve-halve-requires-2 t c κs =
+    let s = c.before.before in
+    (omega arith, (lower-half s.requires.1.0 (falling s.args.t) (not-le_of_lt c.if2.false), omega arith))
+
+halve-returns-2 : (t : ℕ) → halve-lts.Need-returns-2 (halve-below t, halve.Post) (halve-at t) halve.Post
+halve-returns-2 t c = c.halve.ensures
+
+halve-returns-3 : (t : ℕ) → halve-lts.Need-returns-3 (halve-below t, halve.Post) (halve-at t) halve.Post
+halve-returns-3 t c = c.halve2.ensures
 
 pub +halve-spec : {M : Type 1} → statement M
 +halve-spec =
-    close μ-halve
-    λ t. halve-lts.spec (halve-below t, halve.Post) (halve-at t) halve.Post
-    (λ c. omega (arith, not-empty c.requires.1.between))
-    (λ c. narrowed c.before.requires.1.between (omega arith))
-    (λ c. omega (arith, not-empty c.before.requires.1.between))
-    (λ c. omega (arith, not-empty c.before.requires.1.between))
-    (λ c. omega (arith, room c.before.args.lo c.before.args.hi (omega arith)))
-    (λ c. omega (arith, room c.before.args.lo c.before.args.hi (omega arith)))
-    (upper t) (lower t) (λ c. c.halve.ensures) (λ c. c.halve2.ensures)
+    close
+    μ-halve
+    λ t. halve-lts.spec
+    (halve-below t, halve.Post)
+    (halve-at t)
+    halve.Post
+    (halve-sub-if1 t)
+    (halve-returns t)
+    (halve-sub-mid t)
+    (halve-add-mid t)
+    (halve-mul-if2 t)
+    (halve-mul-if2-2 t)
+    (halve-halve-requires t)
+    (halve-halve-requires-2 t)
+    (halve-returns-2 t)
+    (halve-returns-3 t)

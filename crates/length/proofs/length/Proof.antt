@@ -12,54 +12,97 @@ use Rattle.length.proofs.Laws.{Ranged, to_natural, product, squared, start, is-t
 use Rattle.length.proofs.length.Statement.{statement}
 use Rattle.length.proofs.length.Tie as tie
 
--- Where both numbers are known and no test was made, `numbers`. The number that the first two tests look at:
-factor : (numbers : tie.After-amount2) → let at-start = numbers.before.before.before in
-    numbers.before.natural.result ≡ nat_of at-start.args.factor.0
-factor numbers =
-    let amount = numbers.before.before.amount in
-    numbers.before.natural.ensures ∙ ap nat_of (to_z-of_z w64 amount.result (record { sfits = amount.type-inv }) ∙ amount.ensures)
+-- the number that the first two tests look at
+factor : (c : tie.After-amount2) → c.before.natural.result ≡ nat_of c.before.before.before.args.factor.0
+factor c =
+    let a = c.before.before.amount in
+    c.before.natural.ensures ∙ ap nat_of (to_z-of_z w64 a.result (record { sfits = a.type-inv }) ∙ a.ensures)
 
 -- where the two are in range, none of the four tests stops the call
-passes : (numbers : tie.After-amount2) → let given = numbers.before.before.before.args in
-    InRange given.factor given.pixel → Ranged numbers.before.natural.result numbers.amount2.result
-passes numbers ok = rw (factor numbers, numbers.amount2.ensures) (to_natural _ _ ok)
+passes : (c : tie.After-amount2) → InRange c.before.before.before.args.factor c.before.before.before.args.pixel → Ranged c.before.natural.result c.amount2.result
+passes c ok = rw (factor c, c.amount2.ensures) (to_natural _ _ ok)
+
+amount-requires : tie.Need-amount-requires
+amount-requires c κs = search rules
+
+natural-requires : tie.Need-natural-requires
+natural-requires c κs = search rules
+
+amount-requires-2 : tie.Need-amount-requires-2
+amount-requires-2 c κs = search rules
+
+refuse-requires : tie.Need-refuse-requires
+refuse-requires c κs = search rules
+
+returns : tie.Need-returns
+returns c = stops (λ ok. omega (arith, passes c.before.before ok)) c.refuse.ensures
+
+refuse-requires-2 : tie.Need-refuse-requires-2
+refuse-requires-2 c κs = search rules
+
+returns-2 : tie.Need-returns-2
+returns-2 c = stops (λ ok. omega (arith, passes c.before.before.before ok)) c.refuse2.ensures
+
+refuse-requires-3 : tie.Need-refuse-requires-3
+refuse-requires-3 c κs = search rules
+
+returns-3 : tie.Need-returns-3
+returns-3 c = stops (λ ok. omega (arith, passes c.before.before.before.before ok)) c.refuse3.ensures
+
+refuse-requires-4 : tie.Need-refuse-requires-4
+refuse-requires-4 c κs = search rules
+
+returns-4 : tie.Need-returns-4
+returns-4 c = stops (λ ok. omega (arith, passes c.before.before.before.before.before ok)) c.refuse4.ensures
 
 -- past the four tests both are in range
-ranged : (past-both : tie.Else4) → let past-factor = past-both.before.before in let numbers = past-factor.before.before in
-    Ranged numbers.before.natural.result numbers.amount2.result
-ranged past-both = record { factor_low = omega arith; factor_high = omega arith; pixel_low = omega arith; pixel_high = omega arith }
+ranged : (c : tie.Else4) → Ranged c.before.before.before.before.before.natural.result c.before.before.before.before.amount2.result
+ranged c = record { factor_low = omega arith; factor_high = omega arith; pixel_low = omega arith; pixel_high = omega arith }
 
--- from past the factor's two tests back to there
-abbrev numbers_of : tie.Else2 → tie.After-amount2
-numbers_of past-factor = past-factor.before.before
+mul-product : tie.Need-overflow-mul-product
+mul-product c = omega (arith, product (ranged c))
+
+mul-halve : tie.Need-overflow-mul-halve
+mul-halve c = omega (arith, squared (product (ranged c)))
+
+add-halve : tie.Need-overflow-add-halve
+add-halve c = omega (arith, product (ranged c))
 
 halve-requires : tie.Need-halve-requires
-halve-requires c κs = record { between = start _; room = omega (arith, product (ranged c)) }
+halve-requires c κs = (start _, omega (arith, product (ranged c)))
+
+of-requires : tie.Need-of-requires
+of-requires c κs = search rules
 
 returns-5 : tie.Need-returns-5
 returns-5 c =
-    let past-both = c.before.before in
-    let past-factor = past-both.before.before in
-    let numbers = past-factor.before.before in
-    let given = numbers.before.before.before.args in
-    is-the-length given.factor given.pixel
-    (rw (← factor numbers, ← numbers.amount2.ensures) (ranged past-both))
+    let e = c.before.before in
+    let told = e.before.before.before.before in
+    let a = told.before.before.before.args in
+    is-the-length a.factor a.pixel
+    (rw (← factor told, ← told.amount2.ensures) (ranged e))
     (record { number = 0; length = c.of.result })
     refl
-    (rw (← factor numbers, ← numbers.amount2.ensures, c.of.ensures) c.before.halve.ensures)
+    (rw (← factor told, ← told.amount2.ensures, c.of.ensures) c.before.halve.ensures)
 
 pub length_spec : {M : Type 1} → statement M
 length_spec =
     tie.close
-    (tie.spec (λ c κs. search rules) (λ c κs. search rules) (λ c κs. search rules) (λ c κs. search rules)
-    (λ c. stops (λ ok. omega (arith, passes c.before.before ok)) c.refuse.ensures)
-    (λ c κs. search rules)
-    (λ c. stops (λ ok. omega (arith, passes c.before.before.before ok)) c.refuse2.ensures)
-    (λ c κs. search rules)
-    (λ c. stops (λ ok. omega (arith, passes (numbers_of c.before.before) ok)) c.refuse3.ensures)
-    (λ c κs. search rules)
-    (λ c. stops (λ ok. omega (arith, passes (numbers_of c.before.before.before) ok)) c.refuse4.ensures)
-    (λ c. omega (arith, product (ranged c)))
-    (λ c. omega (arith, squared (product (ranged c))))
-    (λ c. omega (arith, product (ranged c)))
-    halve-requires (λ c κs. search rules) returns-5)
+    (tie.spec
+    amount-requires
+    natural-requires
+    amount-requires-2
+    refuse-requires
+    returns
+    refuse-requires-2
+    returns-2
+    refuse-requires-3
+    returns-3
+    refuse-requires-4
+    returns-4
+    mul-product
+    mul-halve
+    add-halve
+    halve-requires
+    of-requires
+    returns-5)

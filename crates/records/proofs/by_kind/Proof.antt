@@ -9,26 +9,26 @@ use Rattle.records.proofs.by_kind.Statement.{statement}
 use Rattle.records.proofs.by_kind.Tie as tie
 
 -- past the first two arms
-is-third : (at_rest : tie.At-match-rest) → at_rest.before.before.args.kind ≡ 3
-is-third at_rest = let not = at_rest.match.rest in third at_rest.before.before.requires.known not.0.1 not.1
+is-third : (c : tie.At-match-rest) → c.before.before.args.kind ≡ 3
+is-third c = let r = c.match.rest in third c.before.before.requires.0 r.0.1 r.1
 
 pixel-size-requires : tie.Need-pixel-size-requires
 pixel-size-requires c κs =
-    let at-start = c.before.before in
-    let ends = ends_by at-start.args.start (is-third c) at-start.requires.ends in
-    let there = at-start.requires.there in
+    let s = c.before.before in
+    let ends = ends_by s.args.start (is-third c) s.requires.1 in
+    let there = s.requires.2 in
     omega arith
+
+returns : tie.Need-returns
+returns c = rw c.match.keys1 refl
+
+returns-2 : tie.Need-returns-2
+returns-2 c = rw c.match.keys2 refl
 
 returns-3 : tie.Need-returns-3
 returns-3 c =
-    let at-start = c.before.before.before in
     rw (is-third c.before)
-    (ap (λ (size : Picometres). answer_of (Pixel size at-start.args.end)) c.pixel-size.ensures)
+    (ap (λ (size : Picometres). answer_of (Pixel size c.before.before.before.args.end)) c.pixel-size.ensures)
 
 pub by-kind-spec : {M : Type 1} → statement M
-by-kind-spec =
-    tie.close
-    (tie.spec pixel-size-requires
-    (λ c. rw c.match.keys1 refl)
-    (λ c. rw c.match.keys2 refl)
-    returns-3)
+by-kind-spec = tie.close (tie.spec pixel-size-requires returns returns-2 returns-3)

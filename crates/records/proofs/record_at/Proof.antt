@@ -1,6 +1,5 @@
 -- `records::record_at` meets its contract: each test is one number's condition, in the order of the definition. Assumes nothing.
 use mathlib.Core.Path.{◌≡◌, refl, ap, ◌∙◌}
-use mathlib.Core.List.{List}
 use Prim.Native.Nat.{ℕ, ◌+◌, ◌≤◌, ◌<◌}
 use native.Mathlib.Omega.{arith}
 use borrow.Author.Rules.{rules}
@@ -14,55 +13,67 @@ use Rattle.records.proofs.record_at.Statement.{statement}
 use Rattle.records.proofs.record_at.Tie as tie
 
 -- past the first two tests the input is not too long, and the offset is in it
-begun : {A B C : Type 0} (inside : tie.Else2) → let given = inside.before.before.before.args in
-    C → Unless (length given.input.now ≤ 32768) A (Unless (given.at < length given.input.now) B C)
-begun inside rest = goes_on (omega arith) (goes_on (omega arith) rest)
+begun : {A B C : Type 0} (c : tie.Else2) → let a = c.before.before.before.args in
+    C → Unless (length a.input.now ≤ 32768) A (Unless (a.at < length a.input.now) B C)
+begun c rest = goes_on (omega arith) (goes_on (omega arith) rest)
 
 -- past the third the kind is known, and so is the length of its body
-module _ (past-kind : tie.Else3) where
-  abbrev inside : tie.Else2
-  inside = past-kind.before.before.before
+known : (c : tie.Else3) → let a = c.before.before.before.before.before.before.args in
+    Known (byte a.input.now a.at) × (c.before.body-length.result ≡ body_length (byte a.input.now a.at))
+known c = told-known c.before.body-length.ensures c.if3.false
 
-  abbrev input : List ℕ
-  input = inside.before.before.before.args.input.now
+returns : tie.Need-returns
+returns c = stops (λ ok. omega arith) refl
 
-  abbrev at : ℕ
-  at = inside.before.before.before.args.at
+returns-2 : tie.Need-returns-2
+returns-2 c = goes_on (omega arith) (stops (λ ok. omega arith) refl)
 
-  told : Known (byte input at) × (past-kind.before.body-length.result ≡ body_length (byte input at))
-  told = told-known past-kind.before.body-length.ensures past-kind.if3.left
+shared-slice-read-kind : tie.Need-shared-slice-read-kind
+shared-slice-read-kind c = search rules
 
-  known : Known (byte input at)
-  known = told.0
+body-length-requires : tie.Need-body-length-requires
+body-length-requires c κs = search rules
 
-  size : past-kind.before.body-length.result ≡ body_length (byte input at)
-  size = told.1
+returns-3 : tie.Need-returns-3
+returns-3 c = begun c.before.before.before (stops (told-unknown c.before.body-length.ensures c.if3.true) refl)
+
+add_start : tie.Need-overflow-add-start
+add_start c = search rules
+
+sub-if4 : tie.Need-overflow-sub-if4
+sub-if4 c = search rules
 
 returns-4 : tie.Need-returns-4
 returns-4 c =
-    let past-kind = c.before in
-    begun (inside past-kind) (goes_on (known past-kind) (stops (λ ok. omega (arith, size past-kind)) refl))
+    let k = known c.before in
+    begun c.before.before.before.before (goes_on k.0 (stops (λ ok. let size = k.1 in omega arith) refl))
+
+add-by-kind : tie.Need-overflow-add-by-kind
+add-by-kind c = search rules
 
 by-kind-requires : tie.Need-by-kind-requires
-by-kind-requires c κs =
-    let past-kind = c.before in
-    record { known = known past-kind; ends = omega (arith, size past-kind); there = omega (arith, size past-kind) }
+by-kind-requires c κs = let k = known c.before in (k.0, let size = k.1 in omega arith, let size = k.1 in omega arith)
 
 returns-5 : tie.Need-returns-5
 returns-5 c =
-    let past-kind = c.before.before in
-    let here = at past-kind in
-    let ends = ap (λ (n : ℕ). by_kind (input past-kind) (byte (input past-kind) here) (here + 1) (here + 1 + n)) (size past-kind) in
-    begun (inside past-kind)
-    (goes_on (known past-kind) (goes_on (omega (arith, size past-kind)) (c.by_kind.ensures ∙ ends)))
+    let past-kind = c.before.before.before.before.before in
+    let a = past-kind.before.before.before.args in
+    let k = known c.before.before in
+    let ends = ap (λ (n : ℕ). by_kind a.input.now (byte a.input.now a.at) (a.at + 1) (a.at + 1 + n)) k.1 in
+    begun past-kind (goes_on k.0 (goes_on (let size = k.1 in omega arith) (c.by_kind.ensures ∙ ends)))
 
 pub record-at-spec : {M : Type 1} → statement M
 record-at-spec =
     tie.close
     (tie.spec
-    (λ c. stops (λ ok. omega arith) refl)
-    (λ c. goes_on (omega arith) (stops (λ ok. omega arith) refl))
-    (λ c. search rules) (λ c κs. search rules)
-    (λ c. begun c.before.before.before (stops (told-unknown c.before.body-length.ensures c.if3.true) refl))
-    (λ c. search rules) (λ c. search rules) returns-4
-    (λ c. search rules) by-kind-requires returns-5)
+    returns
+    returns-2
+    shared-slice-read-kind
+    body-length-requires
+    returns-3
+    add_start
+    sub-if4
+    returns-4
+    add-by-kind
+    by-kind-requires
+    returns-5)

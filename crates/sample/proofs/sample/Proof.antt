@@ -3,92 +3,125 @@ use mathlib.Core.Path.{ap, ◌∙◌}
 use native.Mathlib.Omega.{arith}
 use borrow.Author.Rules.{rules}
 use lib.ListN.{length}
+use mir.Syntax.{w64}
+use mir.ValLaws.{to_z-of_z}
 use Rattle.answers.proofs.Refusals.{stops, goes_on, told_no, told_yes}
 use Rattle.picture.proofs.Shapes.{WellShaped, passes_both, well-shaped, misshapen, pixels}
+use Rattle.sample.specs.declared.Coordinate.{Coordinate}
 use Rattle.sample.specs.Cubic.{sampled, refused}
-use Rattle.sample.specs.inside.Asked.{Around}
-use Rattle.sample.proofs.Summing.{returned}
+use Rattle.sample.specs.Asked.{Surrounded, Around}
 use Rattle.sample.proofs.Coordinates.{outside, is-inside}
 use Rattle.sample.proofs.Outcomes.{is_sample}
 use Rattle.sample.proofs.sample.Statement.{statement}
 use Rattle.sample.proofs.sample.Tie as tie
 
+shape-requires : tie.Need-shape-requires
+shape-requires c κs = search rules
+
+refuse-requires : tie.Need-refuse-requires
+refuse-requires c κs = search rules
+
 returns : tie.Need-returns
 returns c =
-    let shape = c.before.before.shape in
-    misshapen _ _ _ shape.result c.before.if1.true (λ n is. c.refuse.ensures ∙ ap refused is) shape.ensures
+    let t = c.before in
+    let a = t.before.before.before.args in
+    misshapen (length a.levels.now) a.width a.height t.before.shape.result t.if1.true (λ n is. c.refuse.ensures ∙ ap refused is) t.before.shape.ensures
 
 -- past the first test the picture has its shape
-shaped : (past-shape : tie.Else1)
-    → let a = past-shape.before.before.before.args in WellShaped (length a.levels.now) a.width a.height
-shaped past-shape = well-shaped _ _ _ past-shape.before.shape.result (omega arith) past-shape.before.shape.ensures
+fit : (c : tie.Else1) → let a = c.before.before.before.args in WellShaped (length a.levels.now) a.width a.height
+fit c = well-shaped _ _ _ c.before.shape.result (omega arith) c.before.shape.ensures
+
+locate-requires : tie.Need-locate-requires
+locate-requires c κs = search rules
+
+locate-requires-2 : tie.Need-locate-requires-2
+locate-requires-2 c κs = search rules
+
+surrounded-requires : tie.Need-surrounded-requires
+surrounded-requires c κs = search rules
+
+refuse-requires-2 : tie.Need-refuse-requires-2
+refuse-requires-2 c κs = search rules
 
 -- the column is outside
 returns-2 : tie.Need-returns-2
 returns-2 c =
-    let column-asked = c.before.before in
-    let column-located = column-asked.before.before in
-    let not-surrounded = told_no column-asked.surrounded.ensures c.before.if2.true in
-    let not-inside = outside _ _ column-located.locate.ensures _ not-surrounded in
-    passes_both (shaped column-located.before) (stops (λ inside. not-inside inside.0) c.refuse2.ensures)
+    let t = c.before.before in
+    let e = t.before.before.before in
+    let a = e.before.before.before.args in
+    let not-surrounded = told_no t.surrounded.ensures c.before.if2.true in
+    passes_both (fit e) (stops (λ in-it. outside a.x _ t.before.before.locate.ensures a.width not-surrounded in-it.0) c.refuse2.ensures)
+
+surrounded-requires-2 : tie.Need-surrounded-requires-2
+surrounded-requires-2 c κs = search rules
+
+refuse-requires-3 : tie.Need-refuse-requires-3
+refuse-requires-3 c κs = search rules
 
 -- the row is
 returns-3 : tie.Need-returns-3
 returns-3 c =
-    let row-asked = c.before.before in
-    let row-located = row-asked.before.before.before in
-    let not-surrounded = told_no row-asked.surrounded2.ensures c.before.if3.true in
-    let not-inside = outside _ _ row-located.locate2.ensures _ not-surrounded in
-    passes_both (shaped row-located.before.before) (stops (λ inside. not-inside inside.1) c.refuse3.ensures)
+    let t = c.before.before in
+    let l = t.before.before.before in
+    let e = l.before.before in
+    let a = e.before.before.before.args in
+    let not-surrounded = told_no t.surrounded2.ensures c.before.if3.true in
+    passes_both (fit e) (stops (λ in-it. outside a.y _ l.locate2.ensures a.height not-surrounded in-it.1) c.refuse3.ensures)
 
 -- past the last test the 4×4 levels are in the picture
-module _ (past-place : tie.Else3) where
-  abbrev column-in : tie.Else2
-  column-in = past-place.before.before
+module _ (c : tie.Else3) where
+  abbrev placed : tie.After-locate2
+  placed = c.before.before.before.before
 
-  abbrev row-located : tie.After-locate2
-  row-located = column-in.before.before
+  abbrev shaped : tie.Else1
+  shaped = placed.before.before
 
-  abbrev column-located : tie.After-locate
-  column-located = row-located.before
+  abbrev began : tie.Start
+  began = shaped.before.before.before
 
-  abbrev past-shape : tie.Else1
-  past-shape = column-located.before
+  abbrev column : Coordinate
+  column = placed.before.locate.result
 
-  abbrev at-start : tie.Start
-  at-start = past-shape.before.before.before
+  abbrev row : Coordinate
+  row = placed.locate2.result
 
-  around : let a = at-start.args in
-      Around a.levels.now a.width column-located.locate.result row-located.locate2.result
+  in-column : Surrounded began.args.width column.pixel
+  in-column = told_yes c.before.before.before.surrounded.ensures c.before.before.if2.false
+
+  in_row : Surrounded began.args.height row.pixel
+  in_row = told_yes c.before.surrounded2.ensures c.if3.false
+
+  around : Around began.args.levels.now began.args.width column.pixel row.pixel
   around =
-      let a = at-start.args in
-      let s = shaped past-shape in
-      record {
-        rows = a.height;
-        in_columns = told_yes column-in.before.surrounded.ensures column-in.if2.left;
-        in_rows = told_yes past-place.before.surrounded2.ensures past-place.if3.left;
-        all_levels = s.all_levels;
-        few = pixels a.width a.height s.sides;
-        across = omega (arith, column-located.locate.ensures);
-        down = omega (arith, row-located.locate2.ensures);
-      }
+      let f = fit shaped in
+      record { rows = began.args.height; column = in-column; row = in_row; all_levels = f.all_levels; few = pixels began.args.width began.args.height f.sides }
+
+around-requires : tie.Need-around-requires
+around-requires c κs = (around c, (omega (arith, (placed c).before.locate.ensures), omega (arith, (placed c).locate2.ensures)))
 
 returns-4 : tie.Need-returns-4
-unfolding around
 returns-4 c =
-    let past-place = c.before in
-    let a = (at-start past-place).args in
-    let p = around past-place in
-    let at_x = (column-located past-place).locate.ensures in
-    let at_y = (row-located past-place).locate2.ensures in
-    passes_both (shaped (past-shape past-place))
-    (goes_on (is-inside a.x _ at_x a.width p.in_columns, is-inside a.y _ at_y a.height p.in_rows)
-    (ap (sampled 0) (returned (record { sfits = c.around.type-inv })
-    (is_sample a.levels.now a.x a.y _ _ at_x at_y p.in_columns p.in_rows c.around.ensures))))
+    let e = c.before in
+    let a = (began e).args in
+    let at_x = (placed e).before.locate.ensures in
+    let at_y = (placed e).locate2.ensures in
+    passes_both (fit (shaped e)) (goes_on (is-inside a.x (column e) at_x a.width (in-column e), is-inside a.y (row e) at_y a.height (in_row e))
+    (ap (sampled 0) (is_sample a.levels.now a.x a.y (column e) (row e) at_x at_y (in-column e) (in_row e) (rw (to_z-of_z w64 c.around.result (record { sfits = c.around.type-inv })) c.around.ensures))))
 
 pub sample-spec : {M : Type 1} → statement M
 sample-spec =
     tie.close
-    (tie.spec (λ c κs. search rules) (λ c κs. search rules) returns (λ c κs. search rules) (λ c κs. search rules)
-    (λ c κs. search rules) (λ c κs. search rules) returns-2 (λ c κs. search rules) (λ c κs. search rules) returns-3
-    (λ c κs. around c) returns-4)
+    (tie.spec
+    shape-requires
+    refuse-requires
+    returns
+    locate-requires
+    locate-requires-2
+    surrounded-requires
+    refuse-requires-2
+    returns-2
+    surrounded-requires-2
+    refuse-requires-3
+    returns-3
+    around-requires
+    returns-4)

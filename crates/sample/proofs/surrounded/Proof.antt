@@ -7,11 +7,14 @@ use Rattle.sample.proofs.Coordinates.{tested}
 use Rattle.sample.proofs.surrounded.Statement.{statement}
 use Rattle.sample.proofs.surrounded.Tie as tie
 
+returns : tie.Need-returns
+returns c = stops (λ b. omega (arith, b.before)) refl
+
+returns-2 : tie.Need-returns-2
+returns-2 c = stops (λ b. omega (arith, b.after)) refl
+
 returns-3 : tie.Need-returns-3
-returns-3 c = let a = c.before.before.args in tested a.side a.pixel _ (omega arith) (omega arith)
+returns-3 c = tested c.before.before.args.side c.before.before.args.pixel _ (omega arith) (omega arith)
 
 pub surrounded-spec : {M : Type 1} → statement M
-surrounded-spec =
-    tie.close
-    (tie.spec (λ c. stops (λ b. omega (arith, b.before)) refl) (λ c. stops (λ b. omega (arith, b.after)) refl)
-    returns-3)
+surrounded-spec = tie.close (tie.spec returns returns-2 returns-3)

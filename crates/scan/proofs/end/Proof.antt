@@ -20,7 +20,7 @@ use Rattle.scan.proofs.end.Tie as tie
 -- ---- past the first test
 module _ (begun : tie.Else1) where
   abbrev start : tie.Start
-  start = let told = begun.before.before in told.before.before.before
+  start = begun.before.before.before.before.before
 
   abbrev held : List ℕ
   held = start.args.held.now
@@ -34,7 +34,7 @@ module _ (begun : tie.Else1) where
 -- ---- past the second
 module _ (last : tie.Else2) where
   abbrev begun₂ : tie.Else1
-  begun₂ = let came-read = last.before in came-read.before.before.before
+  begun₂ = last.before.before.before.before
 
   is_last : came_of (held begun₂) ≡ height_of (held begun₂)
   is_last = omega (arith, last.if2.left)
@@ -64,43 +64,37 @@ module _ (passed : tie.Else3) where
   room = rw (← due-is passed.before) (omega arith)
 
 abbrev passed₄ : tie.After-take-rows → tie.Else3
-passed₄ taken = let lent = taken.before in lent.before.before.before
+passed₄ taken = taken.before.before.before.before
 
 returns : tie.Need-returns
-returns c =
-    let told = c.before.before in
-    stops (told_no told.begun.ensures c.before.if1.true) (refused_is c.refuse.ensures)
+returns c = stops (told_no c.before.before.begun.ensures c.before.if1.true) (refused_is c.refuse.ensures)
 
 returns-2 : tie.Need-returns-2
 returns-2 c =
-    let height-read = c.before.before.before in
-    let past-begun = height-read.before.before in
-    goes_on (is-begun past-begun)
-    (stops (λ ok. omega (arith, ok, c.before.if2.true)) (refused_is c.refuse2.ensures))
+    let other = c.before in
+    goes_on (is-begun other.before.before.before.before)
+    (stops (λ ok. omega (arith, ok, other.if2.true)) (refused_is c.refuse2.ensures))
 
 returns-3 : tie.Need-returns-3
 returns-3 c =
-    let due-known = c.before.before in
-    let past-last = due-known.before in
-    let begun = begun₃ due-known in
+    let short = c.before in
+    let known = short.before in
+    let begun = begun₃ known in
     let out : ¬ (min 3 (height_of (held begun)) * width_of (held begun) ≤ length (output begun)) =
-    rw (← due-is due-known) (λ ok. omega (arith, ok, c.before.if3.true)) in
-    goes_on (is-begun begun) (goes_on (is_last past-last) (stops out (refused_is c.refuse3.ensures)))
+    rw (← due-is known) (λ ok. omega (arith, ok, short.if3.true)) in
+    goes_on (is-begun begun) (goes_on (is_last known.before) (stops out (refused_is c.refuse3.ensures)))
 
 take-rows-requires : tie.Need-take-rows-requires
 take-rows-requires c κs =
     let passed = c.before.before.before in
     let begun = begun₀ passed in
     let last = is_last (last₀ passed) in
-    record {
-      ready = end-ready (held begun) (is-begun begun) last;
-      coming = end-coming (held begun) (is-begun begun) last (output begun) (room passed);
-    }
+    (end-ready (held begun) (is-begun begun) last, end-coming (held begun) (is-begun begun) last (output begun) (room passed))
 
 -- ---- where the memory begins anew
 module _ (anew : tie.After-start) where
   abbrev taken : tie.After-take-rows
-  taken = let rows_back = anew.before.before.before in rows_back.before.before.before
+  taken = anew.before.before.before.before.before.before
 
   abbrev passed₅ : tie.Else3
   passed₅ = passed₄ taken
@@ -132,42 +126,125 @@ returns-4 c =
     let w = width_of (held begun) in
     let h = height_of (held begun) in
     let rows_long = (taken anew).take-rows.auto.0 ∙ length_rows (held begun) (is-begun begun).long in
-    let left =
-    ap (λ (m : List ℕ). set m 2 (h + 3)) (anew_is anew)
-    ∙ count_again w h 0 (h + 3) (zeros 6144) (drop 6147 (lent anew)) in
-    end-done (held begun) (is-begun begun) (is_last (last₀ passed)) (output begun) (room passed)
-    (taken anew).take-rows.new.0 _ _ _
+    let left = ap (λ (m : List ℕ). set m 2 (h + 3)) (anew_is anew) ∙ count_again w h 0 (h + 3) (zeros 6144) (drop 6147 (lent anew)) in
+    end-done (held begun) (is-begun begun) (is_last (last₀ passed)) (output begun) (room passed) (taken anew).take-rows.new.0 _ _ _
     rows_long
-    (due-is passed.before) left (taken anew).take-rows.ensures.output_is
+    (due-is passed.before) left (taken anew).take-rows.ensures.1
+
+start-requires : tie.Need-start-requires
+start-requires c κs = search rules
+
+add-held : tie.Need-overflow-add-held
+add-held c = omega (arith, (is-begun (begun₅ c.before.before)).height.1)
+
+cast-held : tie.Need-overflow-cast-held
+cast-held c = omega (arith, (is-begun (begun₅ c.before.before)).height.1)
 
 slice-write-held : tie.Need-slice-write-held
-slice-write-held c =
-    let anew = c.before.before in
-    omega (arith, anew-long anew, (is-begun (begun₅ anew)).long)
+slice-write-held c = let anew = c.before.before in omega (arith, anew-long anew, (is-begun (begun₅ anew)).long)
+
+same-length-4 : tie.Need-same-length-4
+same-length-4 c = simp length-set (anew-long c.before.before)
+
+begun-requires : tie.Need-begun-requires
+begun-requires c κs = search rules
+
+refuse-requires : tie.Need-refuse-requires
+refuse-requires c κs = search rules
+
+same_length : tie.Need-same-length
+same_length c = search rules
+
+slice-read-width : tie.Need-slice-read-width
+slice-read-width c = omega (arith, (is-begun c.before).long)
+
+cast-width : tie.Need-overflow-cast-width
+cast-width c = omega (arith, c.slice-known3.given 0)
+
+slice-read-height : tie.Need-slice-read-height
+slice-read-height c = omega (arith, (is-begun c.before.before).long)
+
+cast-height : tie.Need-overflow-cast-height
+cast-height c = omega (arith, c.slice-known4.given 1)
 
 slice-read-came : tie.Need-slice-read-came
-slice-read-came c =
-    let past-begun = c.before.before.before in
-    omega (arith, (is-begun past-begun).long)
+slice-read-came c = omega (arith, (is-begun c.before.before.before).long)
+
+cast-came : tie.Need-overflow-cast-came
+cast-came c = omega (arith, c.slice-known5.given 2)
+
+refuse-requires-2 : tie.Need-refuse-requires-2
+refuse-requires-2 c κs = search rules
+
+same-length-2 : tie.Need-same-length-2
+same-length-2 c = search rules
+
+less-requires : tie.Need-less-requires
+less-requires c κs = search rules
+
+sub-due : tie.Need-overflow-sub-due
+sub-due c = omega (arith, c.less.ensures)
+
+mul-if3 : tie.Need-overflow-mul-if3
+mul-if3 c = omega (arith, due-few c)
+
+refuse-requires-3 : tie.Need-refuse-requires-3
+refuse-requires-3 c κs = search rules
+
+same-length-3 : tie.Need-same-length-3
+same-length-3 c = search rules
+
+sub-take-rows : tie.Need-overflow-sub-take-rows
+sub-take-rows c = search rules
+
+part-take-rows-start : tie.Need-slice-bounds-take-rows-start
+part-take-rows-start c = search rules
+
+part-take-rows-end : tie.Need-slice-bounds-take-rows-end
+part-take-rows-end c = omega (arith, (is-begun (begun₀ c)).long)
+
+array-share-prefix-none : tie.Need-array-share-prefix-none
+array-share-prefix-none c = search rules
+
+slice-aggregate-take-rows : tie.Need-slice-aggregate-take-rows
+slice-aggregate-take-rows c = search rules
+
+same-length-5 : tie.Need-same-length-5
+same-length-5 c = search rules
 
 pub end-spec : {M : Type 1} → statement M
 end-spec =
     tie.close
-    (tie.spec (λ c κs. search rules) (λ c κs. search rules) (λ c. search rules) returns
-    (λ c. omega (arith, (is-begun c.before).long))
-    (λ c. omega (arith, c.slice-known3.given 0))
-    (λ c. omega (arith, (is-begun c.before.before).long))
-    (λ c. omega (arith, c.slice-known4.given 1))
+    (tie.spec
+    begun-requires
+    refuse-requires
+    same_length
+    returns
+    slice-read-width
+    cast-width
+    slice-read-height
+    cast-height
     slice-read-came
-    (λ c. omega (arith, c.slice-known5.given 2))
-    (λ c κs. search rules) (λ c. search rules) returns-2 (λ c κs. search rules)
-    (λ c. omega (arith, c.less.ensures))
-    (λ c. omega (arith, due-few c))
-    (λ c κs. search rules) (λ c. search rules) returns-3 (λ c. search rules) (λ c. search rules)
-    (λ c. omega (arith, (is-begun (begun₀ c)).long))
-    (λ c. search rules) (λ c. search rules) take-rows-requires (λ c κs. search rules)
-    (λ c. omega (arith, (is-begun (begun₅ c.before.before)).height.1))
-    (λ c. omega (arith, (is-begun (begun₅ c.before.before)).height.1))
+    cast-came
+    refuse-requires-2
+    same-length-2
+    returns-2
+    less-requires
+    sub-due
+    mul-if3
+    refuse-requires-3
+    same-length-3
+    returns-3
+    sub-take-rows
+    part-take-rows-start
+    part-take-rows-end
+    array-share-prefix-none
+    slice-aggregate-take-rows
+    take-rows-requires
+    start-requires
+    add-held
+    cast-held
     slice-write-held
-    (λ c. simp length-set (anew-long c.before.before))
-    (λ c. search rules) returns-4)
+    same-length-4
+    same-length-5
+    returns-4)

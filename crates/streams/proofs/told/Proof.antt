@@ -13,8 +13,8 @@ use Rattle.streams.proofs.told.Statement.{statement}
 use Rattle.streams.proofs.told.Tie as tie
 
 -- the answer as the machine reads it back from its bits is the answer
-back : (at-start : tie.Start) → to_z w64 (of_z w64 at-start.args.answer) ≡ at-start.args.answer
-back at-start = to_z-of_z w64 at-start.args.answer at-start.ranges.answer
+back : (c : tie.Start) → to_z w64 (of_z w64 c.args.answer) ≡ c.args.answer
+back c = to_z-of_z w64 c.args.answer c.ranges.answer
 
 returns : tie.Need-returns
 returns c =
@@ -23,11 +23,14 @@ returns c =
 
 returns-2 : tie.Need-returns-2
 returns-2 c =
-    let at-start = c.before.before.before in
+    let else = c.before in
+    let at-start = else.before.before in
     let space = at-start.args.space.now in
-    let count_is = c.count.ensures.1 in
-    told_count at-start.args.answer space c.count.result (rw (back at-start) at c.before.if1.false) (omega arith)
-    (count_is ∙ ap (λ (z : ℤ). clamp_len z (length space)) (back at-start))
+    told_count at-start.args.answer space c.count.result (rw (back at-start) at else.if1.false) (omega arith)
+    (c.count.ensures.1 ∙ ap (λ (z : ℤ). clamp_len z (length space)) (back at-start))
+
+count-requires : tie.Need-count-requires
+count-requires c κs = search rules
 
 pub told-spec : {M : Type 1} → statement M
-told-spec = tie.close (tie.spec returns (λ c κs. search rules) returns-2)
+told-spec = tie.close (tie.spec returns count-requires returns-2)

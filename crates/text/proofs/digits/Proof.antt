@@ -5,44 +5,66 @@ use Rattle.text.proofs.Putting.{digit_put, digits_put}
 use Rattle.text.proofs.digits.Statement.{statement}
 use Rattle.text.proofs.digits.Tie as tie
 
--- where io gave the digits: back to the start
-abbrev at-start : tie.After-decimal → tie.Start
-at-start spelled =
-    let past_one = spelled.before.before in
-    past_one.before.before
+-- io gave at most 20 digits
+at-most-20 : (c : tie.After-decimal) → c.decimal.result ≤ 20
+at-most-20 c = few_digits c.before.before.before.before.args.n c.decimal.result (omega arith) c.decimal.ensures.1.0
 
--- there are at most 20
-few : (spelled : tie.After-decimal) → spelled.decimal.result ≤ 20
-few spelled =
-    let least-digits = spelled.decimal.ensures.1.0 in
-    few_digits (at-start spelled).args.n spelled.decimal.result (omega arith) least-digits
+cast-block : tie.Need-overflow-cast-block
+cast-block c = search rules
 
-copy-requires : tie.Need-copy-requires
-copy-requires c κs = record { few = few c.before.before; room = omega (arith, few c.before.before) }
+add-block : tie.Need-overflow-add-block
+add-block c = search rules
 
--- one digit
+slice-write-block : tie.Need-slice-write-block
+slice-write-block c = search rules
+
+add-result : tie.Need-overflow-add-result
+add-result c = search rules
+
+same_length : tie.Need-same-length
+same_length c = search rules
+
 returns : tie.Need-returns
 returns c =
     let given = c.before.before.args in
     digit_put given.block.now given.at given.n c.if1.true (omega arith)
 
--- more of them
+decimal-requires : tie.Need-decimal-requires
+decimal-requires c κs = search rules
+
+copy-requires : tie.Need-copy-requires
+copy-requires c κs = let few = at-most-20 c.before.before in (few, omega arith)
+
+add-result-2 : tie.Need-overflow-add-result-2
+add-result-2 c = let few = at-most-20 c.before.before.before.before.before in omega arith
+
+same-length-2 : tie.Need-same-length-2
+same-length-2 c = search rules
+
 returns-2 : tie.Need-returns-2
 returns-2 c =
-    let copied = c.before.before in
-    let spelled = copied.before.before.before in
-    let given = (at-start spelled).args in
-    let spelling = spelled.decimal.ensures in
-    digits_put given.block.now _ _ given.at given.n spelled.decimal.result (omega arith)
+    let after-copy = c.before.before in
+    let after-decimal = after-copy.before.before.before in
+    let given = after-decimal.before.before.before.before.args in
+    let spelling = after-decimal.decimal.ensures in
+    digits_put given.block.now _ _ given.at given.n after-decimal.decimal.result (omega arith)
     spelling.0
     spelling.1.0
     spelling.1.1
-    copied.copy.ensures
+    after-copy.copy.ensures
 
 pub digits-spec : {M : Type 1} → statement M
 digits-spec =
     tie.close
-    (tie.spec (λ c. search rules) (λ c. search rules) (λ c. search rules) (λ c. search rules) (λ c. search rules)
-    returns (λ c κs. search rules) copy-requires
-    (λ c. let copied = c.before.before in omega (arith, few copied.before.before.before))
-    (λ c. search rules) returns-2)
+    (tie.spec
+    cast-block
+    add-block
+    slice-write-block
+    add-result
+    same_length
+    returns
+    decimal-requires
+    copy-requires
+    add-result-2
+    same-length-2
+    returns-2)

@@ -7,8 +7,7 @@ use Rattle.text.proofs.magnitude.Statement.{statement}
 use Rattle.text.proofs.magnitude.Tie as tie
 
 -- n is what `natural` gives of the complement of v, and r is one more
-below-zero : (v : ℤ) (n r : ℕ) → SFits w64 v → n ≡ nat_of (to_z w64 (18446744073709551615 - of_z w64 v)) → r ≡ (n + 1) % 2 ^ 64
-    → lt_z v (pos 0) ≡ true → r ≡ nat_abs v
+below-zero : (v : ℤ) (n r : ℕ) → SFits w64 v → n ≡ nat_of (to_z w64 (18446744073709551615 - of_z w64 v)) → r ≡ (n + 1) % 2 ^ 64 → lt_z v (pos 0) ≡ true → r ≡ nat_abs v
 below-zero (pos k) n r fits is more negative = let b : k < 0 = ltb-true k 0 negative in omega arith
 below-zero (negsuc k) n r fits is more negative =
     let room : k < 9223372036854775808 = fits.sfits in
@@ -16,12 +15,16 @@ below-zero (negsuc k) n r fits is more negative =
     let same : n ≡ k = is ∙ ap (λ (m : ℕ). nat_of (to_z w64 m)) back ∙ ap nat_of (to_z_pos w64 k room) in
     omega arith
 
+natural-requires : tie.Need-natural-requires
+natural-requires c κs = search rules
+
+wrapping-add-u64-requires : tie.Need-wrapping-add-u64-requires
+wrapping-add-u64-requires c κs = search rules
+
 returns : tie.Need-returns
 returns c =
-    let complement-known = c.before in
-    let at-start = complement-known.before in
-    below-zero at-start.args.v complement-known.natural.result c.wrapping-add-u64.result at-start.ranges.v
-    complement-known.natural.ensures c.wrapping-add-u64.ensures
+    let s = c.before.before in
+    below-zero s.args.v c.before.natural.result c.wrapping-add-u64.result s.ranges.v c.before.natural.ensures c.wrapping-add-u64.ensures
 
 pub magnitude-spec : {M : Type 1} → statement M
-magnitude-spec = tie.close (tie.spec (λ c κs. search rules) (λ c κs. search rules) returns)
+magnitude-spec = tie.close (tie.spec natural-requires wrapping-add-u64-requires returns)

@@ -3,47 +3,65 @@ use Rattle.std.proofs.Common.{◌<◌, length, ℤ, refl, subst, arith, lit≤, 
 use mir.ValLaws.{to_z-of_z}
 use Rattle.answers.proofs.Refusals.{stops}
 use Rattle.text.specs.Text.{SpelledSigned, block}
-use Rattle.text.specs.inside.Digits.{Digits}
+use Rattle.text.specs.Inside.{Digits}
 use Rattle.text.proofs.Putting.{place_after, after-put}
 use Rattle.text.proofs.signed.Statement.{statement}
 use Rattle.text.proofs.signed.Tie as tie
 
--- where the digits are put: back to the start
-abbrev at-start : tie.After-signed-digits → tie.Start
-at-start put =
-    let past_room = put.before.before.before in
-    past_room.before.before
+returns : tie.Need-returns
+returns c = stops (λ room. omega arith) refl
+
+sub-if2 : tie.Need-overflow-sub-if2
+sub-if2 c = search rules
+
+returns-2 : tie.Need-returns-2
+returns-2 c = stops (λ room. omega arith) refl
+
+signed-digits-requires : tie.Need-signed-digits-requires
+signed-digits-requires c κs = search rules
 
 -- what the digits are of, with the number as it was given and not as the machine reads it back from its bits
-spelled : (put : tie.After-signed-digits) → let given = (at-start put).args in
-    Digits (SpelledSigned given.v) 21 given.block.now given.at (block put.signed-digits.result put.signed-digits.new.0)
-spelled put =
-    let given = (at-start put).args in
-    let left = block put.signed-digits.result put.signed-digits.new.0 in
+spelled : (c : tie.After-signed-digits) → let given = c.before.before.before.before.before.args in
+    Digits (SpelledSigned given.v) 21 given.block.now given.at (block c.signed-digits.result c.signed-digits.new.0)
+spelled c =
+    let at-start = c.before.before.before.before.before in
+    let given = at-start.args in
+    let left = block c.signed-digits.result c.signed-digits.new.0 in
     subst (λ (v : ℤ). Digits (SpelledSigned v) 21 given.block.now given.at left)
-    (to_z-of_z w64 given.v (at-start put).ranges.v)
-    put.signed-digits.ensures
+    (to_z-of_z w64 given.v at-start.ranges.v)
+    c.signed-digits.ensures
 
 -- the digits end before the block does, so that there is a place for the byte after them
-place : (put : tie.After-signed-digits) → put.signed-digits.result < length put.signed-digits.new.0
-place put =
-    let given = (at-start put).args in
-    place_after (SpelledSigned given.v) 21 given.block.now _ given.at 0 _ (lit≤ tt) (omega arith) (spelled put)
+place : (c : tie.After-signed-digits) → c.signed-digits.result < length c.signed-digits.new.0
+place c =
+    let given = c.before.before.before.before.before.args in
+    place_after (SpelledSigned given.v) 21 given.block.now _ given.at 0 _ (lit≤ tt) (omega arith) (spelled c)
+
+slice-write-block : tie.Need-slice-write-block
+slice-write-block c = place c.before.before
+
+add-result : tie.Need-overflow-add-result
+add-result c = let inside = place c.before.before in omega arith
+
+same_length : tie.Need-same-length
+same_length c = search rules
 
 returns-3 : tie.Need-returns-3
 returns-3 c =
-    let put = c.before.before in
-    let given = (at-start put).args in
-    after-put (SpelledSigned given.v) 21 given.block.now _ given.at given.after _ (lit≤ tt) (omega arith) (spelled put)
+    let after-digits = c.before.before in
+    let given = after-digits.before.before.before.before.before.args in
+    after-put (SpelledSigned given.v) 21 given.block.now _ given.at given.after _ (lit≤ tt) (omega arith)
+    (spelled after-digits)
 
 pub signed-spec : {M : Type 1} → statement M
 signed-spec =
     tie.close
     (tie.spec
-    (λ c. stops (λ room. omega arith) refl)
-    (λ c. search rules)
-    (λ c. stops (λ room. omega arith) refl)
-    (λ c κs. search rules)
-    (λ c. place c.before.before)
-    (λ c. omega (arith, place c.before.before))
-    (λ c. search rules) returns-3)
+    returns
+    sub-if2
+    returns-2
+    signed-digits-requires
+    slice-write-block
+    add-result
+    same_length
+    returns-3)

@@ -9,6 +9,18 @@ use borrow.Author.Rules.{rules}
 use Rattle.arithmetic.proofs.bytes.complement.Statement.{statement}
 use Rattle.arithmetic.proofs.bytes.complement.Tie as tie
 
+cast-result : tie.Need-overflow-cast-result
+cast-result c = search rules
+
+returns : tie.Need-returns
+returns c = search rules
+
+sub-result : tie.Need-overflow-sub-result
+sub-result c = search rules
+
+cast-result-2 : tie.Need-overflow-cast-result-2
+cast-result-2 c = search rules
+
 returns-2 : tie.Need-returns-2
 returns-2 c =
     let n = c.before.args.n in
@@ -16,6 +28,4 @@ returns-2 c =
     ap (to_z w64) back
 
 pub complement-spec : {M : Type 1} → statement M
-complement-spec =
-    tie.close
-    (tie.spec (λ c. search rules) (λ c. search rules) (λ c. search rules) (λ c. search rules) returns-2)
+complement-spec = tie.close (tie.spec cast-result returns sub-result cast-result-2 returns-2)

@@ -4,10 +4,11 @@ use Rattle.arithmetic.proofs.Most.{most_tells}
 use Rattle.arithmetic.proofs.values.at_most.Statement.{statement}
 use Rattle.arithmetic.proofs.values.at_most.Tie as tie
 
+greatest-requires : tie.Need-greatest-requires
+greatest-requires c κs = search rules
+
 returns : tie.Need-returns
-returns c =
-    let given = c.before.before.args in
-    most_tells given.values.now c.greatest.result given.most c.greatest.ensures
+returns c = let a = c.before.before.args in most_tells a.values.now c.greatest.result a.most c.greatest.ensures
 
 pub at-most-spec : {M : Type 1} → statement M
-at-most-spec = tie.close (tie.spec (λ c κs. search rules) returns)
+at-most-spec = tie.close (tie.spec greatest-requires returns)

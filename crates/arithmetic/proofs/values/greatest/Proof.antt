@@ -1,6 +1,6 @@
--- `arithmetic::values::greatest` meets its contract: before each turn it has the greatest of the values passed. Assumes nothing.
+-- `arithmetic::values::greatest` meets its contract: after each value it has the greatest so far. Assumes nothing.
 use mathlib.Core.Path.{refl}
-use Prim.Native.Nat.{◌-◌}
+use Prim.Native.Nat.{◌-◌, ◌≤◌}
 use native.Mathlib.Omega.{arith}
 use lib.ListN.{length}
 use borrow.Author.Rules.{rules}
@@ -8,32 +8,52 @@ use Rattle.arithmetic.proofs.Most.{Most, most_none, most_more, most_all}
 use Rattle.arithmetic.proofs.values.greatest.Statement.{statement}
 use Rattle.arithmetic.proofs.values.greatest.Tie as tie
 
--- `most` is the greatest of the first i values
 abbrev invariant-loop : tie.invariant-loop
-invariant-loop values most₀ i₀ most i = Most values most i
+invariant-loop values most₀ i₀ most i = (i ≤ length values) × Most values most i
 
--- the values that are left
 abbrev decreases-loop : tie.decreases-loop
 decreases-loop values most₀ i₀ most i = length values - i
 
--- before the first turn there are none, and 0 is the greatest of none
 loop-holds : tie.Need-loop-init invariant-loop decreases-loop
-loop-holds begun = most_none _
+loop-holds c = (omega arith, most_none c.before.args.values.now)
 
--- a turn: the larger of the greatest so far and the next value
+mul-larger : tie.Need-overflow-mul-larger invariant-loop decreases-loop
+mul-larger c = omega arith
+
+shared-slice-read-larger : tie.Need-shared-slice-read-larger invariant-loop decreases-loop
+shared-slice-read-larger c = omega arith
+
+larger-requires : tie.Need-larger-requires invariant-loop decreases-loop
+larger-requires c κs = search rules
+
+add-i : tie.Need-overflow-add-i invariant-loop decreases-loop
+add-i c = omega arith
+
+loop-less : tie.Need-loop-smaller invariant-loop decreases-loop
+loop-less c = omega arith
+
 loop-again : tie.Need-loop-preserved invariant-loop decreases-loop
-loop-again compared =
-    let in-turn = compared.before.before in
-    let so_far = in-turn.before.loop.invariant in
-    rw compared.larger.ensures (most_more _ in-turn.loop-test.true refl so_far)
+loop-again c =
+    let values = c.before.before.before.before.before.args.values.now in
+    let o = c.before.before.before.loop in
+    (omega arith, rw c.larger.ensures (most_more values o.most o.i _ refl o.invariant.1))
 
--- past the loop the first i are all
 returns : tie.Need-returns invariant-loop decreases-loop
-returns past-loop = most_all past-loop.loop-test.false past-loop.before.loop.invariant
+returns c =
+    let o = c.before.loop in
+    most_all c.before.before.before.args.values.now o.most o.i (omega arith) o.invariant.1
 
 pub greatest-spec : {M : Type 1} → statement M
 greatest-spec =
     tie.close
-    (tie.spec invariant-loop decreases-loop
-    loop-holds (λ c. omega arith) (λ c. omega arith) (λ c κs. search rules) (λ c. omega arith) (λ c. omega arith)
-    loop-again returns)
+    (tie.spec
+    invariant-loop
+    decreases-loop
+    loop-holds
+    mul-larger
+    shared-slice-read-larger
+    larger-requires
+    add-i
+    loop-less
+    loop-again
+    returns)

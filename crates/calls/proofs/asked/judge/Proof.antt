@@ -1,13 +1,34 @@
 -- `calls::asked::judge` meets its contract: each number is its eight bytes'. Assumes nothing.
 use mathlib.Core.Path.{ap, ◌∙◌}
-use Prim.Native.Nat.{ℕ}
 use borrow.Author.Rules.{rules}
 use Rattle.units.specs.declared.Eighths.{Eighths}
-use Rattle.calls.proofs.Laws.{all-four-are}
+use Prim.Native.Nat.{ℕ}
 use Rattle.units.specs.Units.{eighths}
 use Rattle.judge.specs.Judge.{JudgeIs}
+use Rattle.calls.proofs.Laws.{all-four-are}
 use Rattle.calls.proofs.asked.judge.Statement.{statement}
 use Rattle.calls.proofs.asked.judge.Tie as tie
+
+number-requires : tie.Need-number-requires
+number-requires c κs = search rules
+
+of-requires : tie.Need-of-requires
+of-requires c κs = search rules
+
+number-requires-2 : tie.Need-number-requires-2
+number-requires-2 c κs = search rules
+
+of-requires-2 : tie.Need-of-requires-2
+of-requires-2 c κs = search rules
+
+number-requires-3 : tie.Need-number-requires-3
+number-requires-3 c κs = search rules
+
+number-requires-4 : tie.Need-number-requires-4
+number-requires-4 c κs = search rules
+
+judge-requires : tie.Need-judge-requires
+judge-requires c κs = search rules
 
 returns : tie.Need-returns
 returns c =
@@ -19,11 +40,18 @@ returns c =
     after-count.number3.ensures
     (after-bright.of.ensures ∙ ap eighths after-bright.before.number.ensures)
     (after-dark.of2.ensures ∙ ap eighths after-dark.before.number2.ensures)
-    after-spread.number4.ensures c.judge.ensures
+    after-spread.number4.ensures
+    c.judge.ensures
 
 pub judge-spec : {M : Type 1} → statement M
 judge-spec =
     tie.close
     (tie.spec
-    (λ c κs. search rules) (λ c κs. search rules) (λ c κs. search rules) (λ c κs. search rules)
-    (λ c κs. search rules) (λ c κs. search rules) (λ c κs. search rules) returns)
+    number-requires
+    of-requires
+    number-requires-2
+    of-requires-2
+    number-requires-3
+    number-requires-4
+    judge-requires
+    returns)

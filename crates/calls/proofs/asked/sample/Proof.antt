@@ -1,11 +1,26 @@
 -- `calls::asked::sample` meets its contract: each number is its eight bytes'. Assumes nothing.
-use Prim.Native.Nat.{ℕ}
 use borrow.Author.Rules.{rules}
+use Prim.Native.Nat.{ℕ}
+use Rattle.units.specs.declared.Sixteenths.{Sixteenths}
 use Rattle.sample.specs.Cubic.{SampleIs}
 use Rattle.calls.proofs.Laws.{all-four-are}
-use Rattle.units.specs.declared.Sixteenths.{Sixteenths}
 use Rattle.calls.proofs.asked.sample.Statement.{statement}
 use Rattle.calls.proofs.asked.sample.Tie as tie
+
+number-requires : tie.Need-number-requires
+number-requires c κs = search rules
+
+number-requires-2 : tie.Need-number-requires-2
+number-requires-2 c κs = search rules
+
+signed-requires : tie.Need-signed-requires
+signed-requires c κs = search rules
+
+signed-requires-2 : tie.Need-signed-requires-2
+signed-requires-2 c κs = search rules
+
+sample-requires : tie.Need-sample-requires
+sample-requires c κs = search rules
 
 returns : tie.Need-returns
 returns c =
@@ -15,12 +30,19 @@ returns c =
     let after-width = after-height.before.before in
     let levels = after-width.before.before.before.args.levels.now in
     all-four-are (λ (width height : ℕ) (x y : Sixteenths). SampleIs levels width height x y c.sample.result)
-    after-width.number.ensures after-height.number2.ensures after-x.signed.ensures after-y.signed2.ensures
+    after-width.number.ensures
+    after-height.number2.ensures
+    after-x.signed.ensures
+    after-y.signed2.ensures
     c.sample.ensures
 
 pub sample-spec : {M : Type 1} → statement M
 sample-spec =
     tie.close
     (tie.spec
-    (λ c κs. search rules) (λ c κs. search rules) (λ c κs. search rules) (λ c κs. search rules)
-    (λ c κs. search rules) returns)
+    number-requires
+    number-requires-2
+    signed-requires
+    signed-requires-2
+    sample-requires
+    returns)

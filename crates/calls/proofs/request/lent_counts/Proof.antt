@@ -1,25 +1,48 @@
 -- `calls::request::lent_counts` meets its contract: the length is taken or not, and as many places are set. Assumes nothing.
-use native.Mathlib.Omega.{arith}
 use borrow.Author.Rules.{rules}
-use Rattle.calls.proofs.Laws.{taken_room, low-four, lent}
+use Rattle.calls.proofs.Laws.{taken_room, lent}
 use Rattle.calls.proofs.request.lent_counts.Statement.{statement}
 use Rattle.calls.proofs.request.lent_counts.Tie as tie
 
+number-requires : tie.Need-number-requires
+number-requires c κs = search rules
+
+up-to-requires : tie.Need-up-to-requires
+up-to-requires c κs = search rules
+
+number-requires-2 : tie.Need-number-requires-2
+number-requires-2 c κs = search rules
+
+cast-set-counts : tie.Need-overflow-cast-set-counts
+cast-set-counts c = search rules
+
+set-counts-requires : tie.Need-set-counts-requires
+set-counts-requires c κs = taken_room _ _ _ c.before.before.before.up_to.ensures
+
+same_length : tie.Need-same-length
+same_length c = search rules
+
 returns : tie.Need-returns
 returns c =
-    let after-join = c.before.before in
-    let after-up-to = after-join.before.before in
-    let after-number = after-up-to.before in
-    let bytes-known = after-number.before.before in
-    let given = bytes-known.before.args in
-    lent 4294967296 given.b.now given.space.now _ after-up-to.up_to.result _ _ after-number.number.ensures
-    (low-four given.b.now (λ k. omega (arith, bytes-known.shared-slice-known.given k)))
-    after-up-to.up_to.ensures after-join.join-fours.ensures (omega (arith, after-join.join-fours.auto))
+    let after-set = c.before.before in
+    let after-fill = after-set.before in
+    let after-up-to = after-fill.before.before.before in
+    let after-length = after-up-to.before in
+    let given = after-length.before.before.before.args in
+    lent 4294967296 given.b.now given.space.now _ after-up-to.up_to.result _ _
+    after-length.number.ensures
+    after-fill.number2.ensures
+    after-up-to.up_to.ensures
+    after-set.set-counts.ensures
 
 pub lent-counts-spec : {M : Type 1} → statement M
 lent-counts-spec =
     tie.close
     (tie.spec
-    (λ c κs. search rules) (λ c κs. search rules)
-    (λ c κs. record { each = λ i h. omega arith; room = taken_room _ _ _ c.before.up_to.ensures })
-    (λ c. search rules) returns)
+    number-requires
+    up-to-requires
+    number-requires-2
+    cast-set-counts
+    set-counts-requires
+    same_length
+    returns)

@@ -4,17 +4,74 @@ use Rattle.arithmetic.proofs.LittleEndian.{eight_places}
 use Rattle.calls.proofs.wire.eight.Statement.{statement}
 use Rattle.calls.proofs.wire.eight.Tie as tie
 
+shared-slice-read-t4 : tie.Need-shared-slice-read-t4
+shared-slice-read-t4 c = search rules
+
+add-t5 : tie.Need-overflow-add-t5
+add-t5 c = search rules
+
+shared-slice-read-t7 : tie.Need-shared-slice-read-t7
+shared-slice-read-t7 c = search rules
+
+add-t8 : tie.Need-overflow-add-t8
+add-t8 c = search rules
+
+shared-slice-read-t10 : tie.Need-shared-slice-read-t10
+shared-slice-read-t10 c = search rules
+
+add-t11 : tie.Need-overflow-add-t11
+add-t11 c = search rules
+
+shared-slice-read-t13 : tie.Need-shared-slice-read-t13
+shared-slice-read-t13 c = search rules
+
+add-t14 : tie.Need-overflow-add-t14
+add-t14 c = search rules
+
+shared-slice-read-t16 : tie.Need-shared-slice-read-t16
+shared-slice-read-t16 c = search rules
+
+add-t17 : tie.Need-overflow-add-t17
+add-t17 c = search rules
+
+shared-slice-read-t19 : tie.Need-shared-slice-read-t19
+shared-slice-read-t19 c = search rules
+
+add-t20 : tie.Need-overflow-add-t20
+add-t20 c = search rules
+
+shared-slice-read-t22 : tie.Need-shared-slice-read-t22
+shared-slice-read-t22 c = search rules
+
+add-t23 : tie.Need-overflow-add-t23
+add-t23 c = search rules
+
+shared-slice-read-t25 : tie.Need-shared-slice-read-t25
+shared-slice-read-t25 c = search rules
+
 returns : tie.Need-returns
 returns c =
-    let five-read = c.before.before.before in
-    let two-read = five-read.before.before.before in
-    let given = two-read.before.before.args in
+    let four-read = c.before.before.before.before in
+    let given = four-read.before.before.before.before.args in
     eight_places given.b.now given.at
 
 pub eight-spec : {M : Type 1} → statement M
 eight-spec =
     tie.close
     (tie.spec
-    (λ c. search rules) (λ c. search rules) (λ c. search rules) (λ c. search rules) (λ c. search rules)
-    (λ c. search rules) (λ c. search rules) (λ c. search rules) (λ c. search rules) (λ c. search rules)
-    (λ c. search rules) (λ c. search rules) (λ c. search rules) (λ c. search rules) (λ c. search rules) returns)
+    shared-slice-read-t4
+    add-t5
+    shared-slice-read-t7
+    add-t8
+    shared-slice-read-t10
+    add-t11
+    shared-slice-read-t13
+    add-t14
+    shared-slice-read-t16
+    add-t17
+    shared-slice-read-t19
+    add-t20
+    shared-slice-read-t22
+    add-t23
+    shared-slice-read-t25
+    returns)

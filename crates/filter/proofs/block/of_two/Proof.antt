@@ -3,56 +3,70 @@ use Prim.Native.Nat.{ℕ, ◌+◌}
 use mathlib.Core.List.{List, ◌++◌}
 use native.Mathlib.Omega.{arith}
 use borrow.Author.Rules.{rules}
-use Rattle.filter.specs.inside.Asked.{cut}
+use lib.Seq.{slice}
 use Rattle.filter.proofs.Counts.{columns_times_rows}
 use Rattle.filter.proofs.Blocks.{Holds, holds_first, holds_more, held_small, held_median}
 use Rattle.filter.proofs.block.of_two.Statement.{statement}
 use Rattle.filter.proofs.block.of_two.Tie as tie
 
+slice-aggregate-gather : tie.Need-slice-aggregate-gather
+slice-aggregate-gather c = search rules
+
+gather-requires : tie.Need-gather-requires
+gather-requires c κs = let s = c.before.before.before in (omega arith, s.requires.1.2)
+
 -- once the upper row is in
-module _ (one_in : tie.After-gather) where
-  abbrev at-start : tie.Start
-  at-start = let array_Made = one_in.before in array_Made.before.before.before
+module _ (c : tie.After-gather) where
+  abbrev started : tie.Start
+  started = c.before.before.before.before
 
-  abbrev first : ℕ
-  first = at-start.args.first
+  held_one : Holds started.args.count c.gather.new.0 (slice started.args.first (started.args.first + started.args.count) started.args.upper.now)
+  held_one = holds_first _ _ _ _ _ started.pre.0.0 started.pre.1.2 c.gather.ensures
 
-  abbrev count : ℕ
-  count = at-start.args.count
+slice-aggregate-gather-2 : tie.Need-slice-aggregate-gather-2
+slice-aggregate-gather-2 c = search rules
 
-  abbrev upper : List ℕ
-  upper = at-start.args.upper.now
+gather-requires-2 : tie.Need-gather-requires-2
+gather-requires-2 c κs =
+    let g = c.before.before in
+    let s = started g in
+    (omega arith, omega (arith, s.pre.0.1.0, s.pre.1.2))
 
-  abbrev lower : List ℕ
-  lower = at-start.args.lower.now
+slice-aggregate-twice : tie.Need-slice-aggregate-twice
+slice-aggregate-twice c = search rules
 
-  held_one : Holds count one_in.gather.last.0 (cut first count upper)
-  held_one = holds_first first count at-start.pre.rows.upper_row at-start.pre.inside one_in.gather.ensures
+add_twice : tie.Need-overflow-add-twice
+add_twice c = search rules
 
 -- and the lower one too
-module _ (two_in : tie.After-gather2) where
-  abbrev one_in : tie.After-gather
-  one_in = two_in.before.before.before
+module _ (c : tie.After-gather2) where
+  abbrev S : tie.Start
+  S = started c.before.before.before
 
-  held : Holds (count one_in + count one_in) two_in.gather2.last.0
-      (cut (first one_in) (count one_in) (upper one_in) ++ cut (first one_in) (count one_in) (lower one_in))
-  held =
-      let asked = (at-start one_in).pre in
-      holds_more (first one_in) (count one_in) (held_one one_in) asked.rows.lower_row asked.inside two_in.gather2.ensures
+  abbrev columns : List ℕ → List ℕ
+  columns row = slice S.args.first (S.args.first + S.args.count) row
+
+  held : Holds (S.args.count + S.args.count) c.gather2.new.0 (columns S.args.upper.now ++ columns S.args.lower.now)
+  held = holds_more _ _ _ _ _ _ _ _ (held_one c.before.before.before) S.pre.0.1 S.pre.1.2 c.gather2.ensures
 
 twice-requires : tie.Need-twice-requires
 twice-requires c κs =
-    let two_in = c.before.before in
-    let asked = (at-start (one_in two_in)).pre in
-    record {
-      count = (columns_times_rows (count (one_in two_in)) asked.some asked.few).1;
-      inside = omega arith;
-      small = held_small (held two_in);
-    }
+    let g = c.before.before in
+    let columns = (S g).requires.1 in
+    ((columns_times_rows (S g).args.count columns.0 columns.1).1, omega arith, held_small _ _ _ (held g))
+
+returns : tie.Need-returns
+returns c = held_median _ _ _ _ (held c.before.before.before) c.twice.ensures
 
 pub of-two-spec : {M : Type 1} → statement M
 of-two-spec =
     tie.close
     (tie.spec
-    (λ c. search rules) (λ c κs. search rules) (λ c. search rules) (λ c κs. search rules) (λ c. search rules)
-    (λ c. search rules) twice-requires (λ c. held_median _ (held c.before.before.before) c.twice.ensures))
+    slice-aggregate-gather
+    gather-requires
+    slice-aggregate-gather-2
+    gather-requires-2
+    slice-aggregate-twice
+    add_twice
+    twice-requires
+    returns)

@@ -10,40 +10,30 @@ use Rattle.filter.proofs.median.others.Statement.{statement}
 use Rattle.filter.proofs.median.others.Tie as tie
 
 -- v is one of the n levels
-level : (at-start : tie.Start) → at-start.args.v ≤ 1020
-level at-start =
-    let given = at-start.args in
-    let asked = at-start.requires in
-    omega (arith, asked.small given.k, asked.is, get_or-take given.n given.t.now given.k 0 asked.place)
+small : (start : tie.Start) → start.args.v ≤ 1020
+small start =
+    let given = start.args in
+    omega (arith, start.requires.3 given.k, start.requires.4, get_or-take given.n given.t.now given.k 0 start.requires.0)
 
 count-sides-requires : tie.Need-count-sides-requires
 count-sides-requires c κs =
-    let at-start = c.before in
-    let given = at-start.args in
-    record {
-      order = omega arith;
-      inside = omega arith;
-      few = omega arith;
-      small = most_fewer 1020 given.k given.n given.t.now (omega arith) at-start.requires.small;
-      level = level at-start;
-      so_far = sides-none given.t.now given.v;
-    }
+    let start = c.before in
+    let given = start.args in
+    let levels = most_fewer 1020 given.k given.n given.t.now (omega arith) start.requires.3 in
+    ((omega arith, omega arith, omega arith, levels, small start), sides-none given.t.now given.v)
 
 count-sides-requires-2 : tie.Need-count-sides-requires-2
 count-sides-requires-2 c κs =
-    let at-start = c.before.before in
-    let given = at-start.args in
-    let asked = at-start.requires in
-    record {
-      order = omega arith;
-      inside = asked.inside;
-      few = asked.few;
-      small = asked.small;
-      level = level at-start;
-      so_far = sides_itself given.t.now given.v given.k _ _ (omega arith) asked.is c.count-sides.ensures;
-    }
+    let start = c.before.before in
+    let given = start.args in
+    let and-v = sides_itself given.t.now given.v given.k _ _ (omega arith) start.requires.4 c.count-sides.ensures in
+    ((omega arith, start.requires.1, start.requires.2, start.requires.3, small start), and-v)
+
+returns : tie.Need-returns
+returns c = c.count-sides2.ensures
+
+add-count-sides : tie.Need-overflow-add-count-sides
+add-count-sides c = search rules
 
 pub others-spec : {M : Type 1} → statement M
-others-spec =
-    tie.close
-    (tie.spec count-sides-requires (λ c. search rules) count-sides-requires-2 (λ c. c.count-sides2.ensures))
+others-spec = tie.close (tie.spec count-sides-requires add-count-sides count-sides-requires-2 returns)

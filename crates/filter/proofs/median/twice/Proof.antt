@@ -4,63 +4,53 @@ use mathlib.Core.Path.{◌≡◌, refl}
 use mathlib.Core.List.{List}
 use Prim.Native.Nat.{ℕ, ◌+◌, ◌-◌, ◌≤◌}
 use native.Mathlib.Omega.{arith}
+use borrow.Author.Rules.{rules}
 use lib.ListN.{take}
 use Rattle.filter.specs.Median.{twice_median}
 use Rattle.filter.proofs.Counts.{one_to_nine}
-use Rattle.arithmetic.proofs.Turns.{Turn, first_turn, next_turn}
 use Rattle.filter.proofs.Ranges.{most_median}
 use Rattle.filter.proofs.Search.{Middles, middles-first, middles-more, middles-last}
 use Rattle.filter.proofs.median.twice.Statement.{statement}
 use Rattle.filter.proofs.median.twice.Tie as tie
 
 abbrev invariant-loop : tie.invariant-loop
-invariant-loop t n ranks lower₀ upper₀ k₀ lower upper k = Turn 1 n k (λ i. Middles t n i lower upper)
+invariant-loop t n ranks lower₀ upper₀ k₀ lower upper k = (1 ≤ k) × (k ≤ n) × Middles t n k lower upper
 
 abbrev decreases-loop : tie.decreases-loop
 decreases-loop t n ranks lower₀ upper₀ k₀ lower upper k = n - k
 
--- a block has one to nine levels
-sized : (at-start : tie.Start invariant-loop decreases-loop) → (1 ≤ at-start.args.n) × (at-start.args.n ≤ 9)
-sized at-start = one_to_nine at-start.requires.count
+loop-holds : tie.Need-loop-init invariant-loop decreases-loop
+loop-holds c =
+    let start = c.before.before.before.before in
+    let some = (one_to_nine start.requires.0).0 in
+    (omega arith, some, middles-first start.args.t.now start.args.n some start.requires.1)
 
 -- at the loop's test
 module _ (at-loop : tie.At-loop invariant-loop decreases-loop) where
   -- the middle ranks are known
-  abbrev after-middle-ranks : tie.After-middle-ranks invariant-loop decreases-loop
-  after-middle-ranks = at-loop.before.before.before
+  abbrev ranked : tie.After-middle-ranks invariant-loop decreases-loop
+  ranked = at-loop.before.before.before
 
-  abbrev at-start : tie.Start invariant-loop decreases-loop
-  at-start = after-middle-ranks.before.before
+  abbrev start : tie.Start invariant-loop decreases-loop
+  start = ranked.before.before
 
   abbrev t : List ℕ
-  t = at-start.args.t.now
+  t = start.args.t.now
 
   abbrev n : ℕ
-  n = at-start.args.n
+  n = start.args.n
 
   some : 1 ≤ n
-  some = (sized at-start).0
+  some = (one_to_nine start.pre.0).0
 
--- past the loop all levels are looked at
-median : (past-loop : tie.After-loop invariant-loop decreases-loop) → let at-loop = past-loop.before in
-    at-loop.loop.lower + at-loop.loop.upper ≡ twice_median (take (n at-loop) (t at-loop))
-median past-loop =
-    let at-loop = past-loop.before in
-    let turn = at-loop.loop in
-    middles-last (t at-loop) (n at-loop) (some at-loop) (at-start at-loop).requires.inside turn.k _ _ (omega arith) turn.invariant.so_far
-
-loop-holds : tie.Need-loop-init invariant-loop decreases-loop
-loop-holds c =
-    let after-ranks = c.before.before in
-    let at-start = after-ranks.before.before in
-    let some = (sized at-start).0 in
-    first_turn some (middles-first at-start.args.t.now at-start.args.n some at-start.requires.inside)
+  few : n ≤ 9
+  few = (one_to_nine start.pre.0).1
 
 others-requires : tie.Need-others-requires invariant-loop decreases-loop
 others-requires c κs =
     let at-loop = c.before.before in
-    let asked = (at-start at-loop).requires in
-    record { place = omega arith; inside = asked.inside; few = (sized (at-start at-loop)).1; small = asked.small; is = refl }
+    let given = (start at-loop).requires in
+    (omega arith, given.1, few at-loop, given.2, refl)
 
 loop-again : tie.Need-loop-preserved invariant-loop decreases-loop
 loop-again c =
@@ -68,21 +58,68 @@ loop-again c =
     let counted = lower-found.before in
     let at-loop = counted.before.before.before in
     let turn = at-loop.loop in
-    next_turn turn.invariant (omega arith)
-    (middles-more (t at-loop) (n at-loop) (some at-loop) (at-start at-loop).requires.inside turn.k _ _ _ _ _ _ _ _ _ (omega arith) refl
-    counted.others.ensures (after-middle-ranks at-loop).middle-ranks.ensures lower-found.found.ensures c.found2.ensures
-    turn.invariant.so_far)
+    let ranks = (ranked at-loop).middle-ranks.ensures in
+    let more = middles-more (t at-loop) (n at-loop) (some at-loop) (start at-loop).requires.1 turn.k _ _ _ _ _ _ _ _ _ (omega arith) refl in
+    (omega arith, omega arith, more counted.others.ensures ranks.0 ranks.1 lower-found.found.ensures c.found2.ensures turn.invariant.2)
+
+-- past the loop all levels are looked at
+median : (c : tie.After-loop invariant-loop decreases-loop) → c.before.loop.lower + c.before.loop.upper ≡ twice_median (take (n c.before) (t c.before))
+median c =
+    let at-loop = c.before in
+    middles-last (t at-loop) (n at-loop) (some at-loop) (start at-loop).requires.1 at-loop.loop.k _ _ (omega arith) at-loop.loop.invariant.2
+
+returns : tie.Need-returns invariant-loop decreases-loop
+returns c = median c
 
 add-result : tie.Need-overflow-add-result invariant-loop decreases-loop
 add-result c =
     let at-loop = c.before in
-    omega (arith, median c, most_median 1020 (take (n at-loop) (t at-loop)) (at-start at-loop).requires.small)
+    omega (arith, median c, most_median 1020 (take (n at-loop) (t at-loop)) (start at-loop).requires.2)
+
+middle-ranks-requires : tie.Need-middle-ranks-requires invariant-loop decreases-loop
+middle-ranks-requires c κs = search rules
+
+shared-slice-read-lower : tie.Need-shared-slice-read-lower invariant-loop decreases-loop
+shared-slice-read-lower c = omega (arith, (one_to_nine c.before.before.before.requires.0).0)
+
+shared-slice-read-upper : tie.Need-shared-slice-read-upper invariant-loop decreases-loop
+shared-slice-read-upper c = omega (arith, (one_to_nine c.before.before.before.before.requires.0).0)
+
+mul-v : tie.Need-overflow-mul-v invariant-loop decreases-loop
+mul-v c = omega (arith, few c.before)
+
+shared-slice-read-v : tie.Need-shared-slice-read-v invariant-loop decreases-loop
+shared-slice-read-v c = omega arith
+
+found-requires : tie.Need-found-requires invariant-loop decreases-loop
+found-requires c κs = tt
+
+found-requires-2 : tie.Need-found-requires-2 invariant-loop decreases-loop
+found-requires-2 c κs = tt
+
+add-k : tie.Need-overflow-add-k invariant-loop decreases-loop
+add-k c = omega arith
+
+loop-less : tie.Need-loop-smaller invariant-loop decreases-loop
+loop-less c = omega arith
 
 pub twice_spec : {M : Type 1} → statement M
 twice_spec =
     tie.close
-    (tie.spec invariant-loop decreases-loop
-    (λ c κs. c.before.requires.count) (λ c. omega (arith, sized c.before.before.before))
-    (λ c. let read = c.before in omega (arith, sized read.before.before.before))
-    loop-holds (λ c. omega (arith, sized (at-start c.before))) (λ c. omega arith) others-requires
-    (λ c κs. tt) (λ c κs. tt) (λ c. omega arith) (λ c. omega arith) loop-again add-result median)
+    (tie.spec
+    invariant-loop
+    decreases-loop
+    middle-ranks-requires
+    shared-slice-read-lower
+    shared-slice-read-upper
+    loop-holds
+    mul-v
+    shared-slice-read-v
+    others-requires
+    found-requires
+    found-requires-2
+    add-k
+    loop-less
+    loop-again
+    add-result
+    returns)

@@ -9,29 +9,57 @@ use Rattle.gongspindle.proofs.Lines.{good_side, line}
 use Rattle.gongspindle.proofs.levels.line_of.Statement.{statement}
 use Rattle.gongspindle.proofs.levels.line_of.Tie as tie
 
--- Where the picture is measured: back to where the two spaces were made, and to the start.
-module _ (measured : tie.After-measure) where
-  abbrev spaces : tie.After-value-space2
-  spaces = measured.before.before.before
+-- the output, as long as it was lent, has room for the picture
+room : (c : tie.After-measure) → let s = c.before.before.before.before.before.before in length s.args.levels.now ≤ length c.measure.new.1.1.1.0
+room c =
+    let two = c.before.before.before in
+    let s = two.before.before.before in
+    omega (arith, c.measure.auto, two.before.value-space.ensures, s.requires.1, (good_side s.requires.0).few)
 
-  abbrev at-start : tie.Start
-  at-start = spaces.before.before.before
+value-space-requires : tie.Need-value-space-requires
+value-space-requires c κs = search rules
 
-  -- the output, as long as it was lent, has room for the picture
-  room : length at-start.args.levels.now ≤ length measured.measure.last.1.1.1.0
-  room =
-      let square = at-start.pre in
-      omega (arith, measured.measure.kept, spaces.before.value-space.ensures, square.all_levels, (good_side square.side_is).few)
+value-space-requires-2 : tie.Need-value-space-requires-2
+value-space-requires-2 c κs = search rules
+
+slice-aggregate-measure : tie.Need-slice-aggregate-measure
+slice-aggregate-measure c = search rules
+
+slice-aggregate-measure-2 : tie.Need-slice-aggregate-measure-2
+slice-aggregate-measure-2 c = search rules
+
+measure-requires : tie.Need-measure-requires
+measure-requires c κs = search rules
+
+array-share-prefix-output : tie.Need-array-share-prefix-output
+array-share-prefix-output c = omega (arith, room c.before.before)
+
+slice-aggregate-count : tie.Need-slice-aggregate-count
+slice-aggregate-count c = sym (length-take-le _ _ (room c.before.before.before))
+
+slice-aggregate-count-2 : tie.Need-slice-aggregate-count-2
+slice-aggregate-count-2 c = search rules
+
+count-requires : tie.Need-count-requires
+count-requires c κs = search rules
+
+slice-aggregate-two-means : tie.Need-slice-aggregate-two-means
+slice-aggregate-two-means c = search rules
+
+two-means-requires : tie.Need-two-means-requires
+two-means-requires c κs = search rules
 
 returns : tie.Need-returns
 returns c =
     let counted = c.before.before.before in
-    let histogram-lent = counted.before.before.before in
-    let measured = histogram-lent.before.before in
-    let given = (at-start measured).args in
-    line given.levels.now given.side (at-start measured).requires _ _ _ _ _ _ _ _ _
-    (spaces measured).before.value-space.ensures
-    (spaces measured).value-space2.ensures
+    let measured = counted.before.before.before.before.before in
+    let two = measured.before.before.before in
+    let s = two.before.before.before in
+    let output = two.before.value-space.ensures in
+    let work = two.value-space2.ensures in
+    line s.args.levels.now s.args.side s.requires _ _ _ _ _ _ _ _ _
+    output
+    work
     refl
     measured.measure.ensures
     counted.count.ensures
@@ -40,8 +68,16 @@ returns c =
 pub line-of-spec : {M : Type 1} → statement M
 line-of-spec =
     tie.close
-    (tie.spec (λ c κs. search rules) (λ c κs. search rules) (λ c. search rules) (λ c. search rules)
-    (λ c κs. search rules)
-    (λ c. omega (arith, room c.before.before))
-    (λ c. sym (length-take-le _ _ (room c.before.before.before)))
-    (λ c. search rules) (λ c κs. search rules) (λ c. search rules) (λ c κs. search rules) returns)
+    (tie.spec
+    value-space-requires
+    value-space-requires-2
+    slice-aggregate-measure
+    slice-aggregate-measure-2
+    measure-requires
+    array-share-prefix-output
+    slice-aggregate-count
+    slice-aggregate-count-2
+    count-requires
+    slice-aggregate-two-means
+    two-means-requires
+    returns)

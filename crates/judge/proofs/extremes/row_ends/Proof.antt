@@ -1,29 +1,72 @@
--- `judge::extremes::row_ends` meets its contract: after each value the two are the extremes of the values so far. Assumes nothing.
-use Prim.Native.Nat.{◌-◌}
+-- `judge::extremes::row_ends` meets its contract: the values still to come, with those so far, have the row's extremes.
+-- Assumes nothing.
+use Prim.Native.Nat.{◌-◌, ◌≤◌, ◌<◌, min, max}
+use mathlib.Core.Path.{◌≡◌, refl, sym, ◌∙◌}
+use mathlib.Core.List.{foldl}
 use native.Mathlib.Omega.{arith}
 use borrow.Author.Rules.{rules}
-use lib.ListN.{length}
-use Rattle.judge.proofs.Maxima.{Values, values_none, values_more, values_all}
+use lib.ListN.{length, drop}
+use Rattle.judge.proofs.Maxima.{gathered-more, gathered-all}
 use Rattle.judge.proofs.extremes.row_ends.Statement.{statement}
 use Rattle.judge.proofs.extremes.row_ends.Tie as tie
 
 abbrev invariant-loop : tie.invariant-loop
-invariant-loop row most₀ least₀ i₀ most least i = Values row most least i
+invariant-loop row most₀ least₀ i₀ most least i =
+    (i ≤ length row) × (foldl max most (drop i row) ≡ foldl max 0 row) × (foldl min least (drop i row) ≡ foldl min 65535 row)
 
 abbrev decreases-loop : tie.decreases-loop
 decreases-loop row most₀ least₀ i₀ most least i = length row - i
 
+loop-holds : tie.Need-loop-init invariant-loop decreases-loop
+loop-holds c = (omega arith, refl, refl)
+
+mul-v : tie.Need-overflow-mul-v invariant-loop decreases-loop
+mul-v c = omega arith
+
+shared-slice-read-v : tie.Need-shared-slice-read-v invariant-loop decreases-loop
+shared-slice-read-v c = omega arith
+
+larger-requires : tie.Need-larger-requires invariant-loop decreases-loop
+larger-requires c κs = search rules
+
+smaller-requires : tie.Need-smaller-requires invariant-loop decreases-loop
+smaller-requires c κs = search rules
+
+add-i : tie.Need-overflow-add-i invariant-loop decreases-loop
+add-i c = omega arith
+
+loop-less : tie.Need-loop-smaller invariant-loop decreases-loop
+loop-less c = omega arith
+
 loop-again : tie.Need-loop-preserved invariant-loop decreases-loop
 loop-again c =
-    let larger-done = c.before in
-    let at-loop-test = larger-done.before.before in
-    values_more at-loop-test.before.loop.invariant at-loop-test.loop-test.true
-    (omega (arith, larger-done.before.shared-slice-known2.given at-loop-test.before.loop.i))
-    larger-done.larger.ensures c.smaller.ensures
+    let row = c.before.before.before.before.before.before.args.row.now in
+    let o = c.before.before.before.before.loop in
+    let here : o.i < length row = omega arith in (
+      omega arith,
+      gathered-more max row o.i here o.most c.before.larger.result c.before.larger.ensures ∙ o.invariant.1,
+      gathered-more min row o.i here o.least c.smaller.result c.smaller.ensures ∙ o.invariant.2,
+    )
+
+returns : tie.Need-returns invariant-loop decreases-loop
+returns c =
+    let row = c.before.before.before.args.row.now in
+    let o = c.before.loop in
+    let none : length row ≤ o.i = omega arith in
+    (sym (gathered-all max row o.i none o.most) ∙ o.invariant.1, sym (gathered-all min row o.i none o.least) ∙ o.invariant.2)
 
 pub row-ends-spec : {M : Type 1} → statement M
 row-ends-spec =
     tie.close
-    (tie.spec invariant-loop decreases-loop (λ c. values_none _)
-    (λ c. omega arith) (λ c. omega arith) (λ c κs. search rules) (λ c κs. search rules) (λ c. omega arith)
-    (λ c. omega arith) loop-again (λ c. values_all c.before.loop.invariant c.loop-test.false))
+    (tie.spec
+    invariant-loop
+    decreases-loop
+    loop-holds
+    mul-v
+    shared-slice-read-v
+    larger-requires
+    smaller-requires
+    add-i
+    loop-less
+    loop-again
+    returns)

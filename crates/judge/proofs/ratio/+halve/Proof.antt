@@ -2,11 +2,9 @@
 -- Assumes nothing.
 use Prim.Native.Nat.{ℕ, ◌-◌, ◌<◌}
 use native.Mathlib.Omega.{arith}
-use borrow.Author.Rules.{rules}
 use borrow.Fn.Kinds.{In}
 use borrow.Fn.PlainCycle.{Measures, is, falls, and}
 use Rattle.arithmetic.proofs.Greatest.{not-empty, upper-half, lower-half, narrowed}
-use Rattle.judge.specs.inside.Wide.{Halving}
 use Rattle.judge.proofs.Ratios.{answered_yes, answered_no, compared_falls}
 use Rattle.judge.proofs.ratio.halve.Reads as halve
 use Rattle.judge.proofs.ratio.halve.Kinds as halve-kinds
@@ -29,43 +27,51 @@ abbrev called : ℕ → halve-lts.Claims
 called t = (reaches.Asked, reaches.Learnt, halve-below t, halve.Post)
 
 module _ (t : ℕ) where
-  -- what the source asks stands behind the measure
-  module _ (at-start : halve-lts.Start (called t) (halve-at t) halve.Post) where
-    asked : let a = at-start.args in Halving a.left a.right a.lo a.hi
-    asked = search rules
+  halve-sub-if1 : halve-lts.Need-overflow-sub-if1 (called t) (halve-at t) halve.Post
+  halve-sub-if1 c = omega (arith, not-empty c.requires.1.0)
 
-    wide : at-start.args.lo < at-start.args.hi
-    wide = not-empty asked.between
+  halve-returns : halve-lts.Need-returns (called t) (halve-at t) halve.Post
+  halve-returns c = narrowed c.before.requires.1.0 (omega arith)
 
-  -- mid reaches, and the search goes on from there
-  halve-requires : halve-lts.Need-halve-requires (called t) (halve-at t) halve.Post
-  halve-requires c κs =
-      let p = asked c.before.before.before in (
-        omega arith,
-        record {
-          between = upper-half p.between (answered_yes _ _ c.before.reaches.ensures c.if2.true);
-          number = p.number;
-          side = p.side;
-        },
-      )
+  halve-sub-mid : halve-lts.Need-overflow-sub-mid (called t) (halve-at t) halve.Post
+  halve-sub-mid c = omega (arith, not-empty c.before.requires.1.0)
 
-  -- mid does not, and it goes on below
-  halve-requires-2 : halve-lts.Need-halve-requires-2 (called t) (halve-at t) halve.Post
-  halve-requires-2 c κs =
-      let p = asked c.before.before.before in (
-        omega arith,
-        record {
-          between = lower-half p.between (compared_falls _ _) (answered_no _ _ c.before.reaches.ensures c.if2.false);
-          number = omega arith;
-          side = p.side;
-        },
-      )
+  halve-add-mid : halve-lts.Need-overflow-add-mid (called t) (halve-at t) halve.Post
+  halve-add-mid c = omega (arith, not-empty c.before.requires.1.0)
+
+  halve-reaches-requires : halve-lts.Need-reaches-requires (called t) (halve-at t) halve.Post
+  halve-reaches-requires c κs = (omega (arith, not-empty c.before.requires.1.0), c.before.requires.1.2)
+
+  halve-halve-requires : halve-lts.Need-halve-requires (called t) (halve-at t) halve.Post
+  halve-halve-requires c κs =
+      let p = c.before.before.before.requires.1 in
+      (omega arith, (upper-half p.0 (answered_yes _ _ c.before.reaches.ensures c.if2.true), p.1, p.2))
+
+  halve-halve-requires-2 : halve-lts.Need-halve-requires-2 (called t) (halve-at t) halve.Post
+  halve-halve-requires-2 c κs =
+      let p = c.before.before.before.requires.1 in
+      (omega arith, (lower-half p.0 (compared_falls _ _) (answered_no _ _ c.before.reaches.ensures c.if2.false), omega arith, p.2))
+
+  halve-returns-2 : halve-lts.Need-returns-2 (called t) (halve-at t) halve.Post
+  halve-returns-2 c = c.halve.ensures
+
+  halve-returns-3 : halve-lts.Need-returns-3 (called t) (halve-at t) halve.Post
+  halve-returns-3 c = c.halve2.ensures
 
 pub +halve-spec : {M : Type 1} → statement M
 +halve-spec =
-    close μ-halve
-    λ t. halve-lts.spec (called t) (halve-at t) halve.Post
-    (λ c. omega (arith, wide t c)) (λ c. narrowed (asked t c.before).between (omega arith))
-    (λ c. omega (arith, wide t c.before)) (λ c. omega (arith, wide t c.before))
-    (λ c κs. let w = wide t c.before in let p = asked t c.before in search rules)
-    (halve-requires t) (halve-requires-2 t) (λ c. c.halve.ensures) (λ c. c.halve2.ensures)
+    close
+    μ-halve
+    λ t. halve-lts.spec
+    (called t)
+    (halve-at t)
+    halve.Post
+    (halve-sub-if1 t)
+    (halve-returns t)
+    (halve-sub-mid t)
+    (halve-add-mid t)
+    (halve-reaches-requires t)
+    (halve-halve-requires t)
+    (halve-halve-requires-2 t)
+    (halve-returns-2 t)
+    (halve-returns-3 t)

@@ -11,10 +11,20 @@ invariant-loop d power₀ rest₀ power rest = Quartered d power rest
 abbrev decreases-loop : tie.decreases-loop
 decreases-loop d power₀ rest₀ power rest = rest
 
+loop-holds : tie.Need-loop-init invariant-loop decreases-loop
+loop-holds c = quartered_none c.requires.0
+
+mul_power : tie.Need-overflow-mul-power invariant-loop decreases-loop
+mul_power c = let s = c.before in omega (arith, power-most s.loop.invariant s.before.requires.1)
+
+loop-less : tie.Need-loop-smaller invariant-loop decreases-loop
+loop-less c = omega arith
+
+loop-again : tie.Need-loop-preserved invariant-loop decreases-loop
+loop-again c = quartered-more c.before.loop.invariant c.loop-test.true
+
+returns : tie.Need-returns invariant-loop decreases-loop
+returns c = let s = c.before in quartered-last s.loop.invariant s.before.requires.1 (omega arith)
+
 pub power-below-root-spec : {M : Type 1} → statement M
-power-below-root-spec =
-    tie.close
-    (tie.spec invariant-loop decreases-loop (λ c. quartered_none c.requires)
-    (λ c. omega (arith, power-most c.before.loop.invariant c.before.before.requires)) (λ c. omega arith)
-    (λ c. quartered-more c.before.loop.invariant c.loop-test.true)
-    (λ c. quartered-last c.before.loop.invariant c.before.before.requires (omega arith)))
+power-below-root-spec = tie.close (tie.spec invariant-loop decreases-loop loop-holds mul_power loop-less loop-again returns)

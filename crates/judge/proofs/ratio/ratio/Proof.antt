@@ -1,79 +1,119 @@
 -- `judge::ratio::ratio` meets its contract: what halving finds is the ratio, and where 0 does not reach there is none.
 -- Assumes nothing.
-use Prim.Native.Nat.{◌^◌, ◌≤◌, zero-le}
+use Prim.Native.Nat.{ℕ, ◌≤◌, zero-le}
 use native.Mathlib.Nat.{le_refl}
 use native.Mathlib.Omega.{arith}
-use lib.Dec.{lit<, lit≤}
+use lib.Dec.{lit<}
 use borrow.Author.Rules.{rules}
 use borrow.Author.Tests.{not-true, not-false}
-use Rattle.judge.specs.inside.Wide.{value, Compared}
+use Rattle.judge.specs.Wide.{value}
 use Rattle.judge.proofs.Digits.{product_room}
-use Rattle.judge.proofs.Ratios.{answered_yes, answered_no, product, product_most, end_most, Sides, left-most}
-use Rattle.judge.proofs.Ratios.{quotient-least, starts, found, none_found}
+use Rattle.judge.proofs.Ratios.{answered_yes, answered_no, Compared, product, product_most, end_most, Sides, left-most, quotient-least, starts, found, none_found}
 use Rattle.judge.proofs.ratio.ratio.Statement.{statement}
 use Rattle.judge.proofs.ratio.ratio.Tie as tie
 
 -- how large the product is
-most : (at-start : tie.Start) → product at-start.args.count at-start.args.span ≤ 3422552064000
-most at-start = product_most at-start.requires
+most : (c : tie.Start) → product c.args.count c.args.span ≤ 3422552064000
+most c = product_most c.requires.0 c.requires.1
+
+-- what the function is given, and the two sides that are compared
+abbrev given : tie.After-times2 → tie.Start
+given c = c.before.before.before.before
+
+abbrev left-value : tie.After-times2 → ℕ
+left-value c = value c.before.before.times.result 10
+
+abbrev right-value : tie.After-times2 → ℕ
+right-value c = value c.times2.result 10
+
+sides : (c : tie.After-times2) → let a = (given c).args in Sides a.count a.span a.spread (left-value c) (right-value c)
+sides c =
+    let left = c.before.before in
+    record { left_is = rw (← left.before.of.ensures) left.times.ensures; right_is = rw c.before.of2.ensures at c.times2.ensures }
+
+-- past the test, 0 reaches
+zero-reaches : (c : tie.Else1) → let s = c.before.before in Compared (left-value s) (right-value s) 0
+zero-reaches c = answered_yes _ _ c.before.reaches.ensures (not-false _ c.if1.false)
+
+mul-product : tie.Need-overflow-mul-product
+mul-product c = search rules
+
+mul-product-2 : tie.Need-overflow-mul-product-2
+mul-product-2 c = omega (arith, most c)
+
+of-requires : tie.Need-of-requires
+of-requires c κs = search rules
 
 times-requires : tie.Need-times-requires
-times-requires c κs = product_room {m = 2 ^ 62} (rw c.of.ensures c.before.requires.noise.most) (le_refl 256) (lit≤ tt) (lit< tt)
+times-requires c κs = (omega arith, rw c.of.ensures (product_room c.before.requires.3 (le_refl 256) (lit< tt)))
+
+of-requires-2 : tie.Need-of-requires-2
+of-requires-2 c κs = search rules
 
 times-requires-2 : tie.Need-times-requires-2
 times-requires-2 c κs =
     let small = most c.before.before.before in
-    product_room {m = 3422552064000} (rw c.of2.ensures small) small (lit≤ tt) (lit< tt)
+    (omega (arith, small), rw c.of2.ensures (product_room small small (lit< tt)))
 
--- the two sides are made
-module _ (sides-made : tie.After-times2) where
-  abbrev left-made : tie.After-times
-  left-made = sides-made.before.before
-
-  abbrev at-start : tie.Start
-  at-start = left-made.before.before
-
-  sides : let a = at-start.args in
-      Sides a.count a.span a.spread (value left-made.times.result 10) (value sides-made.times2.result 10)
-  sides =
-      record {
-        left_is = rw left-made.before.of.ensures at left-made.times.ensures;
-        right_is = rw sides-made.before.of2.ensures at sides-made.times2.ensures;
-      }
-
--- past the test, 0 reaches
-module _ (past-zero : tie.Else1) where
-  abbrev sides-here : tie.After-times2
-  sides-here = past-zero.before.before
-
-  zero-reaches : Compared (value (left-made sides-here).times.result 10) (value sides-here.times2.result 10) 0
-  zero-reaches = answered_yes _ _ past-zero.before.reaches.ensures (not-false _ past-zero.if1.left)
+reaches-requires : tie.Need-reaches-requires
+reaches-requires c κs = (zero-le, left-most (sides c) (given c).requires.3)
 
 returns : tie.Need-returns
 returns c = none_found (sides c.before.before) (answered_no _ _ c.before.reaches.ensures (not-true _ c.if1.true))
 
+power-below-root-requires : tie.Need-power-below-root-requires
+power-below-root-requires c κs = let p = (given c.before.before).requires in (p.2, p.3)
+
+mul-less-138 : tie.Need-overflow-mul-less-138
+mul-less-138 c = omega arith
+
+div-less-138 : tie.Need-nonzero-div-less-138
+div-less-138 c = omega arith
+
+less-138-requires : tie.Need-less-138-requires
+less-138-requires c κs = search rules
+
+mul-hi : tie.Need-overflow-mul-hi
+mul-hi c = omega arith
+
+div-hi : tie.Need-nonzero-div-hi
+div-hi c = omega arith
+
 sub-hi : tie.Need-overflow-sub-hi
 sub-hi c =
-    let past-zero = c.before.before in
-    omega (arith, quotient-least (sides (sides-here past-zero)) c.before.power-below-root.ensures (zero-reaches past-zero))
+    let test = c.before.before in
+    omega (arith, quotient-least (sides test.before.before) c.before.power-below-root.ensures (zero-reaches test))
 
 halve-requires : tie.Need-halve-requires
 halve-requires c κs =
-    let past-zero = c.before.before in
-    let s = sides (sides-here past-zero) in
-    let begun = at-start (sides-here past-zero) in
-    record {
-      between = starts s c.before.power-below-root.ensures c.less-138.ensures (zero-reaches past-zero);
-      number = end_most _ (most begun);
-      side = left-most s begun.pre.noise;
-    }
+    let test = c.before.before in
+    let s = test.before.before in (
+      starts (sides s) c.before.power-below-root.ensures c.less-138.ensures (zero-reaches test),
+      end_most _ (most (given s)),
+      left-most (sides s) (given s).requires.3,
+    )
+
+returns-2 : tie.Need-returns-2
+returns-2 c = found (sides c.before.before.before.before.before) c.halve.ensures
 
 pub ratio-spec : {M : Type 1} → statement M
 ratio-spec =
     tie.close
-    (tie.spec (λ c. search rules) (λ c. omega (arith, most c))
-    (λ c κs. search rules) times-requires (λ c κs. search rules) times-requires-2
-    (λ c κs. record { number = zero-le; side = left-most (sides c) (at-start c).requires.noise })
-    returns (λ c κs. search rules)
-    (λ c. omega arith) (λ c. omega arith) (λ c κs. search rules) (λ c. omega arith) (λ c. omega arith)
-    sub-hi halve-requires (λ c. found (sides (sides-here c.before.before.before)) c.halve.ensures))
+    (tie.spec
+    mul-product
+    mul-product-2
+    of-requires
+    times-requires
+    of-requires-2
+    times-requires-2
+    reaches-requires
+    returns
+    power-below-root-requires
+    mul-less-138
+    div-less-138
+    less-138-requires
+    mul-hi
+    div-hi
+    sub-hi
+    halve-requires
+    returns-2)

@@ -1,6 +1,6 @@
 -- `judge::wide::zero` meets its contract: antt computes the value of ten zeros. Assumes nothing.
 use mathlib.Core.Path.{refl}
-use Rattle.judge.specs.inside.Wide.{value}
+use Rattle.judge.specs.Wide.{value}
 use Rattle.judge.proofs.wide.zero.Statement.{statement}
 use Rattle.judge.proofs.wide.zero.Tie as tie
 

@@ -1,80 +1,158 @@
--- `sample::cubic::around` meets its contract: each turn adds the next row's sum times its weight. Assumes nothing.
-use Prim.Native.Nat.{ℕ, ◌-◌}
-use mathlib.Core.Path.{◌∙◌, ap}
+-- `sample::cubic::around` meets its contract: each turn adds the next row, times its weight. Assumes nothing.
+use Prim.Native.Nat.{ℕ, ◌-◌, ◌≤◌}
+use mathlib.Core.Path.{◌≡◌, sym, ap, ◌∙◌}
+use mathlib.Core.List.{List}
 use native.Mathlib.Omega.{arith}
-use borrow.Author.Rules.{rules}
+use lib.IntN.{ℤ, ◌+ℤ◌}
 use mir.Syntax.{w64}
-use mir.Val.{to_z, of_z}
+use mir.Val.{SFits, to_z, of_z}
+use mir.ValLaws.{to_z-of_z}
 use Rattle.arithmetic.specs.Lists.{AtMost}
-use Rattle.sample.specs.inside.Asked.{row_sum, row_from}
-use Rattle.sample.proofs.Summing.{returned, Turn, product-room, sum_room, summed-more}
-use Rattle.sample.proofs.Rows.{Rows, rows_none, rows_more, rows_all, RowIn, row_in}
-use Rattle.sample.proofs.Reach.{rows-room}
+use Rattle.arithmetic.specs.Sums.{sumℤ}
+use Rattle.arithmetic.proofs.SignedSums.{sumℤ_none, sumℤ_more}
+use Rattle.arithmetic.proofs.Casts.{product-fits, sum_fits, sum-gives}
+use Rattle.sample.specs.declared.Coordinate.{Coordinate}
+use Rattle.sample.specs.Cubic.{weight}
+use Rattle.sample.specs.Asked.{row_sum, row_start, row_term}
+use Rattle.sample.proofs.Rows.{sample_done, first_start, next_start, RowIn, row_in}
+use Rattle.sample.proofs.Reach.{row_fits, rows_fit}
 use Rattle.sample.proofs.cubic.around.Statement.{statement}
 use Rattle.sample.proofs.cubic.around.Tie as tie
 
+-- the rows' terms, from the two coordinates
+abbrev row-terms : List ℕ → ℕ → Coordinate → Coordinate → ℕ → ℤ
+row-terms levels width column row = row_term levels width column.pixel row.pixel column.remainder row.remainder
+
+-- where the next row begins, and what the rows before it add up to
 abbrev invariant-loop : tie.invariant-loop
-invariant-loop levels width column row at₀ sum₀ r₀ at sum r = Rows levels width column row at sum r
+invariant-loop levels width column row at₀ sum₀ r₀ at sum r =
+    (r ≤ 4) × (at ≡ row_start width column.pixel row.pixel r) × (to_z w64 sum ≡ sumℤ r (row-terms levels width column row))
 
 abbrev decreases-loop : tie.decreases-loop
 decreases-loop levels width column row at₀ sum₀ r₀ at sum r = 4 - r
 
--- a turn begins: its row lies in the picture
-module _ (at-loop-test : tie.In-loop invariant-loop decreases-loop) where
-  abbrev at-loop : tie.At-loop invariant-loop decreases-loop
-  at-loop = at-loop-test.before
+-- the first row is in the picture
+first-in : (c : tie.Start invariant-loop decreases-loop) → let a = c.args in RowIn a.levels.now a.width a.column.pixel a.row.pixel 0
+first-in c = row_in c.requires.0 0 (omega arith)
 
-  abbrev levels-known : tie.After-shared-slice-known invariant-loop decreases-loop
-  levels-known = at-loop.before.before.before
+sub_at : tie.Need-overflow-sub-at invariant-loop decreases-loop
+sub_at c = omega (arith, c.before.before.requires.0.row)
 
-  abbrev at-start : tie.Start invariant-loop decreases-loop
-  at-start = levels-known.before
+mul_at : tie.Need-overflow-mul-at invariant-loop decreases-loop
+mul_at c = omega (arith, first-in c.before.before)
 
-  inside : let a = at-start.args in RowIn a.levels.now a.width a.column.pixel a.row.pixel at-loop.loop.r
-  inside = row_in at-start.pre at-loop.loop.r at-loop-test.loop-test.taken
+sub-at-2 : tie.Need-overflow-sub-at-2 invariant-loop decreases-loop
+sub-at-2 c = omega (arith, c.before.before.before.requires.0.column)
+
+add_at : tie.Need-overflow-add-at invariant-loop decreases-loop
+add_at c = omega (arith, first-in c.before.before.before)
+
+loop-holds : tie.Need-loop-init invariant-loop decreases-loop
+loop-holds c =
+    let a = c.before.before.before.args in
+    (omega arith, first_start a.width a.column.pixel a.row.pixel, sym (sumℤ_none (row-terms a.levels.now a.width a.column a.row)))
+
+-- one turn: its four levels are in the picture
+module _ (c : tie.In-loop invariant-loop decreases-loop) where
+  abbrev looped : tie.At-loop invariant-loop decreases-loop
+  looped = c.before
+
+  abbrev began : tie.Start invariant-loop decreases-loop
+  began = looped.before.before.before.before
+
+  abbrev levels : List ℕ
+  levels = began.args.levels.now
+
+  abbrev width : ℕ
+  width = began.args.width
+
+  abbrev column : Coordinate
+  column = began.args.column
+
+  abbrev row : Coordinate
+  row = began.args.row
+
+  abbrev r : ℕ
+  r = looped.loop.r
+
+  inside : RowIn levels width column.pixel row.pixel r
+  inside = row_in began.pre.0 r c.loop-test.true
+
+weight-requires : tie.Need-weight-requires invariant-loop decreases-loop
+weight-requires c κs = ((began c).requires.1.1, c.loop-test.true)
 
 row-sum-requires : tie.Need-row-sum-requires invariant-loop decreases-loop
-row-sum-requires c κs =
-    let here = inside c.before in
-    record { inside = omega (arith, here, (at-loop c.before).loop.inv.starts); remainder = search rules }
+row-sum-requires c κs = let t = c.before in (omega (arith, inside t, (looped t).loop.invariant.1), (began t).requires.1.0)
 
--- the row's sum is added under its weight
-module _ (row_done : tie.After-row-sum invariant-loop decreases-loop) where
-  abbrev this-turn : tie.In-loop invariant-loop decreases-loop
-  this-turn = row_done.before.before
+-- the weight and the row's sum as the machine reads them, and that their product and the sum have room
+module _ (c : tie.After-row-sum invariant-loop decreases-loop) where
+  abbrev turn : tie.In-loop invariant-loop decreases-loop
+  turn = c.before.before
 
-  turn : let a = (at-start this-turn).args in
-      Turn a.row.remainder (row_from a.levels.now a.width a.column.pixel a.row.pixel a.column.remainder)
-      (at-loop this-turn).loop.sum (at-loop this-turn).loop.r
-      (to_z w64 (of_z w64 row_done.before.weight.result)) (to_z w64 (of_z w64 row_done.row-sum.result))
-  turn =
-      let a = (at-start this-turn).args in
-      let p = (at-start this-turn).pre in
-      let o = (at-loop this-turn).loop in
-      let weight = row_done.before.weight in
-      let row = row_done.row-sum in
-      let bytes : AtMost 255 a.levels.now = λ p. omega (arith, (levels-known this-turn).shared-slice-known.given p) in
-      record {
-        so_far = o.inv.so_far;
-        one_more = this-turn.loop-test.taken;
-        room = rows-room a.levels.now bytes a.width _ _ _ _ p.across p.down;
-        is_weight = returned (record { sfits = weight.ok }) weight.ensures;
-        is_number =
-            returned (record { sfits = row.ok }) row.ensures
-            ∙ ap (λ (at : ℕ). row_sum a.levels.now at a.column.remainder) o.inv.starts;
-      }
+  abbrev terms : ℕ → ℤ
+  terms = row-terms (levels turn) (width turn) (column turn) (row turn)
+
+  bytes : AtMost 255 (levels turn)
+  bytes p = omega (arith, (looped turn).before.before.before.shared-slice-known.given p)
+
+  is-weight : to_z w64 (of_z w64 c.before.weight.result) ≡ weight (row turn).remainder (r turn)
+  is-weight = let f = c.before.weight in to_z-of_z w64 f.result (record { sfits = f.type-inv }) ∙ f.ensures
+
+  is_row : to_z w64 (of_z w64 c.row-sum.result) ≡ row_sum (levels turn) (row_start (width turn) (column turn).pixel (row turn).pixel (r turn)) (column turn).remainder
+  is_row =
+      let f = c.row-sum in
+      to_z-of_z w64 f.result (record { sfits = f.type-inv }) ∙ f.ensures ∙ ap (λ (at : ℕ). row_sum (levels turn) at (column turn).remainder) (looped turn).loop.inv.1
+
+  room : SFits w64 (terms (r turn))
+  room = let small = (began turn).pre.1 in row_fits (levels turn) bytes _ _ _ _ _ small.0 small.1 (r turn) turn.loop-test.taken
+
+  more : SFits w64 (sumℤ (r turn) terms +ℤ terms (r turn))
+  more = let small = (began turn).pre.1 in rows_fit (levels turn) bytes _ _ _ _ _ small.0 small.1 (r turn) turn.loop-test.taken
+
+mul-sum : tie.Need-overflow-mul-sum invariant-loop decreases-loop
+mul-sum c = product-fits w64 (is-weight c) (is_row c) (room c)
+
+add-sum : tie.Need-overflow-add-sum invariant-loop decreases-loop
+add-sum c = sum_fits w64 (is-weight c) (is_row c) (room c) (looped (turn c)).loop.inv.2 (more c)
+
+add-at-2 : tie.Need-overflow-add-at-2 invariant-loop decreases-loop
+add-at-2 c = omega (arith, inside (turn c), (looped (turn c)).loop.inv.1)
+
+add_r : tie.Need-overflow-add-r invariant-loop decreases-loop
+add_r c = omega arith
+
+loop-less : tie.Need-loop-smaller invariant-loop decreases-loop
+loop-less c = omega arith
 
 loop-again : tie.Need-loop-preserved invariant-loop decreases-loop
-loop-again c = rows_more _ _ _ _ (at-loop (this-turn c)).loop.inv (summed-more (turn c))
+loop-again c =
+    let t = turn c in
+    let next = sum-gives w64 (is-weight c) (is_row c) (room c) (looped t).loop.inv.2 (more c) in
+    (omega arith, next_start (width t) (column t).pixel (row t).pixel (r t) (looped t).loop.inv.1, next ∙ sym (sumℤ_more (r t) (terms c)))
+
+returns : tie.Need-returns invariant-loop decreases-loop
+returns c =
+    let loop = c.before.loop in
+    let a = c.before.before.before.before.before.args in
+    sample_done a.levels.now a.width a.column.pixel a.row.pixel a.column.remainder a.row.remainder loop.invariant.0 c.loop-test.false loop.invariant.2
 
 pub around-spec : {M : Type 1} → statement M
 around-spec =
     tie.close
-    (tie.spec invariant-loop decreases-loop
-    (λ c. search rules) (λ c. omega (arith, row_in c.before.before.requires 0 (omega arith)))
-    (λ c. search rules) (λ c. omega (arith, row_in c.before.before.before.requires 0 (omega arith)))
-    (λ c. rows_none _ _ _ _) (λ c κs. search rules) row-sum-requires
-    (λ c. product-room (turn c)) (λ c. sum_room (turn c))
-    (λ c. omega (arith, inside (this-turn c), (at-loop (this-turn c)).loop.inv.starts))
-    (λ c. omega arith) (λ c. omega arith) loop-again
-    (λ c. rows_all _ _ _ _ c.before.loop.invariant c.loop-test.false))
+    (tie.spec
+    invariant-loop
+    decreases-loop
+    sub_at
+    mul_at
+    sub-at-2
+    add_at
+    loop-holds
+    weight-requires
+    row-sum-requires
+    mul-sum
+    add-sum
+    add-at-2
+    add_r
+    loop-less
+    loop-again
+    returns)

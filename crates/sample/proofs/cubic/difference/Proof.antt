@@ -5,9 +5,17 @@ use Rattle.arithmetic.proofs.Casts.{diff-fits, diff-gives}
 use Rattle.sample.proofs.cubic.difference.Statement.{statement}
 use Rattle.sample.proofs.cubic.difference.Tie as tie
 
+cast-result : tie.Need-overflow-cast-result
+cast-result c = search rules
+
+cast-result-2 : tie.Need-overflow-cast-result-2
+cast-result-2 c = search rules
+
+sub-result : tie.Need-overflow-sub-result
+sub-result c = diff-fits w64 c.args.added c.args.taken c.requires.0 c.requires.1
+
+returns : tie.Need-returns
+returns c = diff-gives w64 c.args.added c.args.taken c.requires.0 c.requires.1
+
 pub difference-spec : {M : Type 1} → statement M
-difference-spec =
-    tie.close
-    (tie.spec (λ c. search rules) (λ c. search rules)
-    (λ c. diff-fits w64 c.args.added c.args.taken c.requires.added_low c.requires.taken_low)
-    (λ c. diff-gives w64 c.args.added c.args.taken c.requires.added_low c.requires.taken_low))
+difference-spec = tie.close (tie.spec cast-result cast-result-2 sub-result returns)

@@ -5,10 +5,14 @@ use Rattle.scan.proofs.Shown.{long-before, long-there, long-past}
 use Rattle.scan.proofs.steps.long.Statement.{statement}
 use Rattle.scan.proofs.steps.long.Tie as tie
 
+returns : tie.Need-returns
+returns c = let a = c.before.args in sym (long-before a.height a.k a.late a.width (omega arith))
+
+returns-2 : tie.Need-returns-2
+returns-2 c = let a = c.before.before.args in sym (long-there a.height a.k a.late a.width (omega arith, omega arith))
+
+returns-3 : tie.Need-returns-3
+returns-3 c = let a = c.before.before.args in sym (long-past a.height a.k a.late a.width (omega arith) (omega arith))
+
 pub long-spec : {M : Type 1} → statement M
-long-spec =
-    tie.close
-    (tie.spec
-    (λ c. sym (long-before _ _ _ _ (omega arith)))
-    (λ c. sym (long-there _ _ _ _ (omega arith, omega arith)))
-    (λ c. sym (long-past _ _ _ _ (omega arith) (omega arith))))
+long-spec = tie.close (tie.spec returns returns-2 returns-3)

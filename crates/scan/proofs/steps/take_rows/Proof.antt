@@ -12,7 +12,7 @@ use Rattle.arithmetic.proofs.Order.{row_end}
 use Rattle.memory.specs.Memory.{row_at}
 use Rattle.scan.specs.Ring.{held_in}
 use Rattle.scan.specs.Held.{given}
-use Rattle.scan.specs.inside.Asked.{long}
+use Rattle.scan.specs.Asked.{long}
 use Rattle.scan.proofs.Taking.{Taken, taken_none, given_grows, given-count, taken-all, part-long, turn}
 use Rattle.scan.proofs.steps.take_rows.Statement.{statement}
 use Rattle.scan.proofs.steps.take_rows.Tie as tie
@@ -37,9 +37,8 @@ decreases-loop rows₀ w h k each n levels output₀ widened₀ halves₀ quarte
 
 loop-holds : tie.Need-loop-init invariant-loop decreases-loop
 loop-holds c =
-    let rows-known = c.before.before.before in
-    let at-start = rows-known.before.before.before in
-    let a = at-start.args in
+    let start = c.before.before.before.before.before.before in
+    let a = start.args in
     record {
       within = search rules;
       at_is = omega arith;
@@ -48,9 +47,7 @@ loop-holds c =
       quarters-long = search rules;
       rows_long = refl;
       output-long = refl;
-      taken =
-          taken_none a.width a.height a.k a.rows.now (row_at a.each a.levels.now) a.output.now
-          at-start.requires.ready;
+      taken = taken_none a.width a.height a.k a.rows.now (row_at a.each a.levels.now) a.output.now start.requires.0;
     }
 
 -- what is known of turn i
@@ -64,14 +61,8 @@ record Known (w h k each n levels output i at done : ℕ) : Type 0 where
   memory : output < 18446744073709551616
 
 module _ (turning : tie.In-loop invariant-loop decreases-loop) where
-  -- where the levels are known, before the rooms are made; and the start
-  abbrev levels-known : tie.After-shared-slice-known invariant-loop decreases-loop
-  levels-known =
-      let first-room = turning.before.before.before in
-      first-room.before.before.before
-
   abbrev start : tie.Start invariant-loop decreases-loop
-  start = levels-known.before.before
+  start = turning.before.before.before.before.before.before.before.before
 
   known : let a = start.args in let l = turning.before.loop in
       Known a.width a.height a.k a.each a.n (length a.levels.now) (length a.output.now) l.i l.at l.done
@@ -79,14 +70,13 @@ module _ (turning : tie.In-loop invariant-loop decreases-loop) where
       let a = start.args in
       let l = turning.before.loop in
       let so_far = l.inv.taken in
-      let coming = start.pre.coming in
+      let coming = start.pre.1 in
       let held = held_in a.width a.height a.k a.rows.now in
       let f = row_at a.each a.levels.now in
       let count = so_far.count in
       let before = le_trans (given_grows held f l.i a.n (omega arith)) coming.room in
       let then = le_trans (given_grows held f (l.i + 1) a.n (omega arith)) coming.room in
-      let more =
-      given-count a.width a.height a.k a.rows.now f a.output.now l.i l.done l.rows l.output so_far in
+      let more = given-count a.width a.height a.k a.rows.now f a.output.now l.i l.done l.rows l.output so_far in
       record {
         inside = omega (arith, row_end a.each a.n l.i (omega arith), coming.levels_are, l.inv.at_is);
         row-there = coming.rows_are l.i (omega arith);
@@ -98,38 +88,84 @@ module _ (turning : tie.In-loop invariant-loop decreases-loop) where
       }
 
   bytes : AtMost 255 start.args.levels.now
-  bytes k = omega (arith, levels-known.shared-slice-known.given k)
+  bytes k = omega (arith, turning.before.before.before.before.before.before.shared-slice-known.given k)
 
--- the turn, seen from where the three rooms are lent
+add-end : tie.Need-overflow-add-end invariant-loop decreases-loop
+add-end c = omega (arith, known c)
+
+add-take-row : tie.Need-overflow-add-take-row invariant-loop decreases-loop
+add-take-row c = omega (arith, known c.before)
+
+sub-take-row : tie.Need-overflow-sub-take-row invariant-loop decreases-loop
+sub-take-row c = omega (arith, known c.before)
+
+part-take-row-start : tie.Need-slice-bounds-take-row-start invariant-loop decreases-loop
+part-take-row-start c = omega (arith, known c.before)
+
+part-take-row-end : tie.Need-slice-bounds-take-row-end invariant-loop decreases-loop
+part-take-row-end c = omega (arith, known c.before)
+
+slice-aggregate-take-row : tie.Need-slice-aggregate-take-row invariant-loop decreases-loop
+slice-aggregate-take-row c = omega arith
+
+slice-aggregate-take-row-2 : tie.Need-slice-aggregate-take-row-2 invariant-loop decreases-loop
+slice-aggregate-take-row-2 c = omega arith
+
+slice-aggregate-take-row-3 : tie.Need-slice-aggregate-take-row-3 invariant-loop decreases-loop
+slice-aggregate-take-row-3 c = omega arith
+
+-- past the three rooms, the turn
 abbrev turn-of : tie.After-quarters invariant-loop decreases-loop → tie.In-loop invariant-loop decreases-loop
-turn-of lent = let rows-lent = lent.before.before.before in rows-lent.before.before
+turn-of c = c.before.before.before.before.before
+
+mul-take-row : tie.Need-overflow-mul-take-row invariant-loop decreases-loop
+mul-take-row c = omega (arith, known (turn-of c))
+
+sub-take-row-2 : tie.Need-overflow-sub-take-row-2 invariant-loop decreases-loop
+sub-take-row-2 c = omega (arith, known (turn-of c))
+
+part-take-row-start-2 : tie.Need-slice-bounds-take-row-start-2 invariant-loop decreases-loop
+part-take-row-start-2 c = omega (arith, known (turn-of c))
+
+part-take-row-end-2 : tie.Need-slice-bounds-take-row-end-2 invariant-loop decreases-loop
+part-take-row-end-2 c = omega (arith, known (turn-of c))
 
 take-row-requires : tie.Need-take-row-requires invariant-loop decreases-loop
 take-row-requires c κs =
     let turning = turn-of c.before in
     let a = (start turning).args in
-    let turn = turning.before.loop in
+    let l = turning.before.loop in
+    let t = l.inv in
     let is = known turning in
-    let width = (start turning).pre.ready.width in
-    record {
-      ready = turn.inv.taken.ready;
-      long_as = part-long a.each turn.i turn.at a.levels.now turn.inv.at_is is.inside _ is.row-there;
-      room = simp (length-take, length-drop) (omega (arith, is.room, turn.inv.output-long));
-      widened_room = omega (arith, width, turn.inv.widened-long);
-      halves_room = omega (arith, width, turn.inv.halves_long);
-      quarters_room = omega (arith, width, turn.inv.quarters-long);
-    }
+    let width = (start turning).pre.0.width in
+    let room : long a.width a.height (a.k + l.i) 3 ≤ length (take (length l.output - l.done) (drop l.done l.output)) =
+    simp (length-take, length-drop) (omega (arith, is.room, t.output-long)) in (
+      (t.taken.ready, part-long a.each l.i l.at a.levels.now t.at_is is.inside _ is.row-there, room),
+      (omega (arith, width, t.widened-long), omega (arith, width, t.halves_long), omega (arith, width, t.quarters-long)),
+    )
 
--- and from past the row that was taken
-module _ (past_row : tie.After-slice-known4 invariant-loop decreases-loop) where
+-- past the row that was taken, the turn
+module _ (c : tie.After-slice-known4 invariant-loop decreases-loop) where
   abbrev row-taken : tie.After-take-row invariant-loop decreases-loop
-  row-taken =
-      let widened-back = past_row.before.before.before in
-      let rows_back = widened-back.before.before.before in
-      rows_back.before
+  row-taken = c.before.before.before.before.before.before.before
 
   abbrev turn-taken : tie.In-loop invariant-loop decreases-loop
   turn-taken = turn-of row-taken.before.before
+
+add-long : tie.Need-overflow-add-long invariant-loop decreases-loop
+add-long c = omega (arith, known (turn-taken c))
+
+long-requires : tie.Need-long-requires invariant-loop decreases-loop
+long-requires c κs = search rules
+
+add_done : tie.Need-overflow-add-done invariant-loop decreases-loop
+add_done c = omega (arith, known (turn-taken c.before), c.long.ensures)
+
+add-i : tie.Need-overflow-add-i invariant-loop decreases-loop
+add-i c = omega (arith, known (turn-taken c.before))
+
+loop-less : tie.Need-loop-smaller invariant-loop decreases-loop
+loop-less c = omega arith
 
 loop-again : tie.Need-loop-preserved invariant-loop decreases-loop
 loop-again c =
@@ -137,56 +173,76 @@ loop-again c =
     let row = (row-taken c.before).take_row in
     let a = (start turning).args in
     let l = turning.before.loop in
-    let so_far = l.inv in
+    let t = l.inv in
     let is = known turning in
-    let kept = row.kept.1.1.1.1.1 in
-    let out = row.last.1.1.1.1.1.1.1.1.0 in
     record {
       within = is.one_more;
-      at_is = omega (arith, so_far.at_is);
-      widened-long = kept.0 ∙ so_far.widened-long;
-      halves_long = kept.1.0 ∙ so_far.halves_long;
-      quarters-long = kept.1.1.0 ∙ so_far.quarters-long;
-      rows_long = row.kept.0 ∙ so_far.rows_long;
-      output-long = same_len_mid l.done (length l.output - l.done) l.output out kept.1.1.1.0 ∙ so_far.output-long;
+      at_is = omega (arith, t.at_is);
+      widened-long = row.kept.1.1.1.1.1.0 ∙ t.widened-long;
+      halves_long = row.kept.1.1.1.1.1.1.0 ∙ t.halves_long;
+      quarters-long = row.kept.1.1.1.1.1.1.1.0 ∙ t.quarters-long;
+      rows_long = row.kept.0 ∙ t.rows_long;
+      output-long =
+          same_len_mid l.done (length l.output - l.done) l.output row.last.1.1.1.1.1.1.1.1.0
+          row.kept.1.1.1.1.1.1.1.1.0 ∙ t.output-long;
       taken =
-          turn a.each l.i l.at a.levels.now so_far.at_is is.inside a.width a.height a.k l.done _
-          a.rows.now a.output.now l.rows l.output row.last.0 _ out so_far.taken is.row-there (bytes turning)
-          is.few row.ensures.rows_are row.ensures.out_is refl (ap (λ (z : ℕ). l.done + z) c.long.ensures);
+          turn a.each l.i l.at a.levels.now t.at_is is.inside a.width a.height a.k l.done _ a.rows.now
+          a.output.now
+          l.rows l.output row.last.0 _ row.last.1.1.1.1.1.1.1.1.0 t.taken is.row-there (bytes turning) is.few
+          row.ensures.0 row.ensures.1 refl (ap (λ (z : ℕ). l.done + z) c.long.ensures);
     }
 
+same_length : tie.Need-same-length invariant-loop decreases-loop
+same_length c = c.before.loop.invariant.rows_long
+
+same-length-2 : tie.Need-same-length-2 invariant-loop decreases-loop
+same-length-2 c = c.before.loop.invariant.output-long
+
 returns : tie.Need-returns invariant-loop decreases-loop
-returns past-loop =
-    let at-loop = past-loop.before in
-    let first-room = at-loop.before.before.before in
-    let levels-known = first-room.before.before in
-    let a = levels-known.before.before.args in
-    let l = at-loop.loop in
-    let all =
-    taken-all a.width a.height a.k a.rows.now (row_at a.each a.levels.now) a.output.now l.i a.n
-    l.done l.rows l.output (omega arith) l.invariant.taken in
-    record { rows_are = all.0; output_is = all.1 }
+returns c =
+    let l = c.before.loop in
+    let a = c.before.before.before.before.before.before.before.before.args in
+    taken-all a.width a.height a.k a.rows.now (row_at a.each a.levels.now) a.output.now l.i a.n l.done l.rows
+    l.output (omega arith) l.invariant.taken
+
+blank-requires : tie.Need-blank-requires invariant-loop decreases-loop
+blank-requires c κs = search rules
+
+blank-requires-2 : tie.Need-blank-requires-2 invariant-loop decreases-loop
+blank-requires-2 c κs = search rules
+
+blank-requires-3 : tie.Need-blank-requires-3 invariant-loop decreases-loop
+blank-requires-3 c κs = search rules
 
 pub take-rows-spec : {M : Type 1} → statement M
 take-rows-spec =
     tie.close
-    (tie.spec invariant-loop decreases-loop (λ c κs. search rules) (λ c κs. search rules) (λ c κs. search rules) loop-holds
-    (λ c. omega (arith, known c))
-    (λ c. omega (arith, known c.before))
-    (λ c. omega (arith, known c.before))
-    (λ c. omega (arith, known c.before))
-    (λ c. omega (arith, known c.before))
-    (λ c. omega arith) (λ c. omega arith) (λ c. omega arith)
-    (λ c. omega (arith, known (turn-of c)))
-    (λ c. omega (arith, known (turn-of c)))
-    (λ c. omega (arith, known (turn-of c)))
-    (λ c. omega (arith, known (turn-of c)))
+    (tie.spec
+    invariant-loop
+    decreases-loop
+    blank-requires
+    blank-requires-2
+    blank-requires-3
+    loop-holds
+    add-end
+    add-take-row
+    sub-take-row
+    part-take-row-start
+    part-take-row-end
+    slice-aggregate-take-row
+    slice-aggregate-take-row-2
+    slice-aggregate-take-row-3
+    mul-take-row
+    sub-take-row-2
+    part-take-row-start-2
+    part-take-row-end-2
     take-row-requires
-    (λ c. omega (arith, known (turn-taken c)))
-    (λ c κs. search rules)
-    (λ c. omega (arith, known (turn-taken c.before), c.long.ensures))
-    (λ c. omega (arith, known (turn-taken c.before)))
-    (λ c. omega arith) loop-again
-    (λ c. c.before.loop.invariant.rows_long)
-    (λ c. c.before.loop.invariant.output-long)
+    add-long
+    long-requires
+    add_done
+    add-i
+    loop-less
+    loop-again
+    same_length
+    same-length-2
     returns)

@@ -13,32 +13,45 @@ invariant-loop histogram v₀ v = (highest histogram ≤ v) × (v < length histo
 abbrev decreases-loop : tie.decreases-loop
 decreases-loop histogram v₀ v = v
 
+sub-v : tie.Need-overflow-sub-v invariant-loop decreases-loop
+sub-v c = omega (arith, highest-below c.args.histogram.now c.requires)
+
 loop-holds : tie.Need-loop-init invariant-loop decreases-loop
-loop-holds at-start =
-    let below = highest-below at-start.args.histogram.now at-start.requires in
+loop-holds c =
+    let b = highest-below c.args.histogram.now c.requires in
     (omega arith, omega arith)
 
--- in a turn there is no value at level v, so that the highest level present lies below it
-sooner : (absent : tie.Then1 invariant-loop decreases-loop) → let at-loop = absent.before.before in
-    highest at-loop.before.args.histogram.now < at-loop.loop.v
-sooner absent =
-    let at-loop = absent.before.before in
-    omega (arith, highest-sooner _ at-loop.before.requires _ at-loop.loop.invariant.0 absent.if1.true)
+mul-if1 : tie.Need-overflow-mul-if1 invariant-loop decreases-loop
+mul-if1 c = omega arith
+
+shared-slice-read-if1 : tie.Need-shared-slice-read-if1 invariant-loop decreases-loop
+shared-slice-read-if1 c = omega arith
+
+sub-v-2 : tie.Need-overflow-sub-v-2 invariant-loop decreases-loop
+sub-v-2 c = omega (arith, highest-sooner _ c.before.before.before.requires _ c.before.before.loop.invariant.0 c.if1.true)
+
+loop-less : tie.Need-loop-smaller invariant-loop decreases-loop
+loop-less c = omega (arith, highest-sooner _ c.before.before.before.requires _ c.before.before.loop.invariant.0 c.if1.true)
 
 loop-again : tie.Need-loop-preserved invariant-loop decreases-loop
 loop-again c =
-    let below = sooner c in
+    let b = highest-sooner _ c.before.before.before.requires _ c.before.before.loop.invariant.0 c.if1.true in
     (omega arith, omega arith)
 
--- and else it is level v
 returns : tie.Need-returns invariant-loop decreases-loop
-returns c =
-    let at-loop = c.before.before in
-    highest-here _ at-loop.before.requires _ at-loop.loop.invariant.0 c.if1.false
+returns c = highest-here _ c.before.before.before.requires _ c.before.before.loop.invariant.0 c.if1.false
 
 pub highest-spec : {M : Type 1} → statement M
 highest-spec =
     tie.close
-    (tie.spec invariant-loop decreases-loop
-    (λ c. omega (arith, highest-below c.args.histogram.now c.requires))
-    loop-holds (λ c. omega arith) (λ c. omega arith) (λ c. omega (arith, sooner c)) (λ c. omega (arith, sooner c)) loop-again returns)
+    (tie.spec
+    invariant-loop
+    decreases-loop
+    sub-v
+    loop-holds
+    mul-if1
+    shared-slice-read-if1
+    sub-v-2
+    loop-less
+    loop-again
+    returns)

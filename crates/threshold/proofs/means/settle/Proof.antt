@@ -18,84 +18,89 @@ invariant-loop histogram below sums usual first next₀ t₀ rounds₀ next t ro
 abbrev decreases-loop : tie.decreases-loop
 decreases-loop histogram below sums usual first next₀ t₀ rounds₀ next t rounds = 2 * length histogram - rounds
 
--- Where the start is known.
-module _ (started : tie.After-start invariant-loop decreases-loop) where
-  abbrev at-start : tie.Start invariant-loop decreases-loop
-  at-start = let called = started.before.before.before in called.before
+start-requires : tie.Need-start-requires invariant-loop decreases-loop
+start-requires c κs = search rules
 
+-- where the start is known
+module _ (c : tie.After-start invariant-loop decreases-loop) where
   abbrev m : ℕ
-  m = at-start.args.usual
+  m = c.before.before.before.before.args.usual
 
   abbrev h : List ℕ
-  h = at-start.args.histogram.now
+  h = c.before.before.before.before.args.histogram.now
 
   some : 0 < total h
-  some = at-start.pre.some
+  some = c.before.before.before.before.requires.1
 
 round-requires : tie.Need-round-requires invariant-loop decreases-loop
-round-requires c κs =
-    record { ready = (at-start c).requires; within = first-within (m c) (h c) (some c) c.start.result c.start.ensures }
+round-requires c κs = (c.before.before.before.before.requires.0, (some c, first-within (m c) (h c) (some c) c.start.result c.start.ensures))
 
 mul-t11 : tie.Need-overflow-mul-t11 invariant-loop decreases-loop
 mul-t11 c =
-    let rounded = c.before in
-    let started = rounded.before in
+    let first = c.before.before in
     omega (
       arith,
-      first-room (m started) (h started) (some started) (at-start started).requires.small started.start.result rounded.round.result
-          started.start.ensures rounded.round.ensures,
+      first-room (m first) (h first) (some first) first.before.before.before.before.requires.0.1 first.start.result c.before.round.result first.start.ensures c.before.round.ensures,
     )
 
 loop-holds : tie.Need-loop-init invariant-loop decreases-loop
 loop-holds c =
-    let rounded = c.before in
-    let started = rounded.before in
-    going-first (m started) (h started) (some started) started.start.result rounded.round.result
-    started.start.ensures rounded.round.ensures
+    let first = c.before.before in
+    going-first (m first) (h first) (some first) first.start.result c.before.round.result first.start.ensures c.before.round.ensures
 
--- A turn of the loop, past its test: the threshold has moved, and there is time for a round more.
-module _ (in-turn : tie.Then1 invariant-loop decreases-loop) where
-  abbrev at-loop : tie.At-loop invariant-loop decreases-loop
-  at-loop = in-turn.before.before
+differ-requires : tie.Need-differ-requires invariant-loop decreases-loop
+differ-requires c κs = search rules
 
+-- a turn of the loop: the threshold has moved, and there is time for a round more
+module _ (c : tie.Then1 invariant-loop decreases-loop) where
   abbrev first : tie.After-start invariant-loop decreases-loop
-  first = at-loop.before.before.before
+  first = c.before.before.before.before.before
 
-  moved : ¬ (at-loop.loop.t ≡ at-loop.loop.next)
-  moved = they_differ at-loop.loop.t at-loop.loop.next (sym in-turn.before.differ.ensures ∙ in-turn.if1.taken)
+  abbrev turn : tie.At-loop invariant-loop decreases-loop
+  turn = c.before.before
 
-  in_time : at-loop.loop.rounds < 2 * length (h first) - 1
-  in_time =
-      let turn = at-loop.loop in
-      still-time (m first) (h first) (some first) turn.rounds turn.t turn.next turn.inv moved
+  moved : ¬ (turn.loop.t ≡ turn.loop.next)
+  moved = they_differ turn.loop.t turn.loop.next (sym c.before.differ.ensures ∙ c.if1.true)
+
+  in_time : turn.loop.rounds < 2 * length (h first) - 1
+  in_time = still-time (m first) (h first) (some first) turn.loop.rounds turn.loop.t turn.loop.next turn.loop.inv moved
 
 round-requires-2 : tie.Need-round-requires-2 invariant-loop decreases-loop
 round-requires-2 c κs =
-    let started = first c in
-    record { ready = (at-start started).pre; within = next-within (m started) (h started) (some started) (at-loop c).loop.invariant }
+    ((first c).before.before.before.before.requires.0, (some (first c), next-within (m (first c)) (h (first c)) (some (first c)) (turn c).loop.invariant))
+
+add_rounds : tie.Need-overflow-add-rounds invariant-loop decreases-loop
+add_rounds c = omega (arith, in_time c.before)
+
+loop-less : tie.Need-loop-smaller invariant-loop decreases-loop
+loop-less c = omega (arith, in_time c.before)
 
 loop-again : tie.Need-loop-preserved invariant-loop decreases-loop
 loop-again c =
-    let in-turn = c.before in
-    let started = first in-turn in
-    let turn = (at-loop in-turn).loop in
-    going_on (m started) (h started) (some started) turn.rounds turn.t turn.next c.round2.result turn.inv (moved in-turn)
-    c.round2.ensures
+    let start = first c.before in
+    let loop = (turn c.before).loop in
+    going_on (m start) (h start) (some start) loop.rounds loop.t loop.next c.round2.result loop.inv (moved c.before) c.round2.ensures
 
--- it rests
 returns : tie.Need-returns invariant-loop decreases-loop
 returns c =
-    let at-loop = c.before.before in
-    let started = at-loop.before.before.before in
-    let turn = at-loop.loop in
-    going-ends (m started) (h started) (some started) turn.rounds turn.t turn.next turn.invariant
-    (they_agree turn.t turn.next (sym c.before.differ.ensures ∙ c.if1.false))
+    let start = c.before.before.before.before.before in
+    let loop = c.before.before.loop in
+    going-ends (m start) (h start) (some start) loop.rounds loop.t loop.next loop.invariant
+    (they_agree loop.t loop.next (sym c.before.differ.ensures ∙ c.if1.false))
 
 pub settle-spec : {M : Type 1} → statement M
 settle-spec =
     tie.close
-    (tie.spec invariant-loop decreases-loop (λ c κs. search rules) round-requires mul-t11 loop-holds (λ c κs. search rules)
+    (tie.spec
+    invariant-loop
+    decreases-loop
+    start-requires
+    round-requires
+    mul-t11
+    loop-holds
+    differ-requires
     round-requires-2
-    (λ c. omega (arith, in_time c.before))
-    (λ c. omega (arith, in_time c.before))
-    loop-again returns)
+    add_rounds
+    loop-less
+    loop-again
+    returns)
