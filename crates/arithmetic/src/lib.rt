@@ -2,6 +2,8 @@
 // fractions, and, in specs/ and proofs/, the greatest of a kind and how halving finds it, the least of a kind,
 // signed numbers beside natural ones and how far they go, sums, lists, and tests that are computed. Laws are
 // shared from here; the few functions are total.
+#![tactic(auto)]
+
 pub mod bytes;
 pub mod values;
 
@@ -9,7 +11,7 @@ ghost use Rattle.std.specs.Prelude.{◌≡◌};
 ghost use Rattle.arithmetic.specs.Signed.{nat_of};
 
 // A fraction: a pair of whole numbers, not reduced.
-#[derive(Drop)]
+#[derive(Clone, Copy)]
 pub struct Fraction {
     pub numerator: u64,
     pub denominator: u64,

@@ -2,6 +2,8 @@
 // the library and a second program can be held against it. A request is a letter and the call's
 // arguments; its answer is a line, and one line more for each buffer that was lent. request.rt reads,
 // asked.rt makes the calls, answer.rt writes, and each.rt puts the three together, call by call.
+#![tactic(auto)]
+
 mod answer;
 mod asked;
 mod each;

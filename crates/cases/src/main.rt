@@ -1,6 +1,8 @@
 // The program `cases`: what a student can work by hand (document 01), those cases that the document
 // does not mark, run. (Those that it marks stand in specs/Cases.antt, and proofs/Worked.antt proves
 // them.) A line is what the judge is given, N, M, m and D, and what comes back, the number and q.
+#![tactic(auto)]
+
 use libc::STDOUT_FILENO;
 use units::Eighths;
 

@@ -72,7 +72,7 @@ fn found(sides: Sides, low: u16, high: u16, v: u16, before: u16) -> u16
 }
 
 // How many levels lie below a level, and how many above it.
-#[derive(Drop)]
+#[derive(Clone, Copy)]
 struct Sides {
     below: u16,
     above: u16,

@@ -1,6 +1,8 @@
 // The C door of the library: libgong.a, which include/gong.h declares. Every rule stands in the
 // crates below; here plain numbers become units, and an answer's parts go out by the number that
 // the function returns and through the pointers that the caller lends.
+#![tactic(auto)]
+
 ghost use Rattle.units.specs.Units.{sixteenths, picometres, eighths};
 ghost use Rattle.filter.specs.Filter.{outcome, FilterIs};
 ghost use Rattle.memory.specs.Memory.{StartIs};

@@ -1,6 +1,8 @@
 // The program of document 01: reads records from standard input, prints a line for each good one, and
 // then how many there were, or which one is bad. Every rule stands in the crates below; look.rt finds
 // what the line of a record says, levels.rt that of a picture, print.rt prints, and here is the order.
+#![tactic(auto)]
+
 mod levels;
 mod look;
 mod print;

@@ -1,6 +1,8 @@
 // Whether a picture may be measured (document 01, "Extremes and noise"; document 02, P3): extremes.rt
 // has the sums M and m of the tiles' extremes, noise.rt has N and D, ratio.rt the ratio q, found by
 // comparing numbers that outgrow 64 bits, and wide.rt such numbers.
+#![tactic(auto)]
+
 ghost use Rattle.std.specs.Prelude.{true, false, ◌≡◌, ◌*◌, length};
 ghost use Rattle.answers.specs.Refusals.{Unless};
 ghost use Rattle.units.specs.Units.{eighths};

@@ -1,4 +1,6 @@
 // The length of a sharpness (document 01, "Length"): the sharpness factor over the square root of 2.
+#![tactic(auto)]
+
 ghost use Rattle.std.specs.Prelude.{◌≡◌, ◌*◌, ◌≤◌};
 ghost use Rattle.arithmetic.specs.Greatest.{Greatest, Between};
 ghost use Rattle.length.specs.Length.{LengthIs, refused};

@@ -1,5 +1,7 @@
 // The memory of a scan (document 02, P1): what it holds between its calls, in memory that the caller
 // lends; how it begins, and how it is told that it has.
+#![tactic(auto)]
+
 ghost use Rattle.std.specs.Prelude.{◌≡◌, true, false, ◌≤◌, length, drop};
 ghost use Rattle.answers.specs.Refusals.{Unless};
 ghost use Rattle.memory.specs.Memory.{memory, zeros, Ranges, Begun, StartIs};

@@ -1,5 +1,7 @@
 // What every call on a picture looks at first (document 01: "A picture has width w and height h, each
 // 1 to 1,024, and w·h levels of 8 bits, row by row").
+#![tactic(auto)]
+
 ghost use Rattle.std.specs.Prelude.{◌≡◌};
 ghost use Rattle.picture.specs.Picture.{Shaped};
 

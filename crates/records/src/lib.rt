@@ -1,4 +1,6 @@
 // The records of the program's input (document 01, "The program"): which one begins at an offset.
+#![tactic(auto)]
+
 ghost use Rattle.std.specs.Prelude.{◌≡◌, ◌+◌, ◌≤◌, length};
 ghost use Rattle.answers.specs.Refusals.{Unless};
 ghost use Rattle.arithmetic.specs.Bytes.{four_bytes};

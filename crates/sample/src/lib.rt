@@ -1,5 +1,7 @@
 // Cubic samples (document 01): cubic.rt has the weights of a remainder and the sum over the 4×4 levels
 // around a place; here is which places have one.
+#![tactic(auto)]
+
 ghost use Rattle.std.specs.Prelude.{◌≡◌, true, false};
 ghost use Rattle.answers.specs.Refusals.{Unless};
 ghost use Rattle.sample.specs.Cubic.{SampleIs, refused};

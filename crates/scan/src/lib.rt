@@ -1,6 +1,8 @@
 // Rows while the beam runs (document 02, P1): rows that come, and the end. What a scan holds between its
 // calls lies in memory that the caller lends, and `memory::start` begins it. Of the picture it has the six
 // rows that are still needed, and nothing else; steps.rt takes the rows that come, one by one.
+#![tactic(auto)]
+
 ghost use Rattle.std.specs.Prelude.{◌≡◌};
 ghost use Rattle.scan.specs.Scan.{scanned, RowsIs, EndIs};
 

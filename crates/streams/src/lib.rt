@@ -1,5 +1,7 @@
 // Standard input for the programs: read until a space is full, with an end of the input told from a
 // read that fails.
+#![tactic(auto)]
+
 ghost use Rattle.streams.specs.Streams.{Received, Told};
 
 use libc::STDIN_FILENO;

@@ -1,4 +1,6 @@
 // Numbers as text: their decimal digits, put into a block of bytes that a program then writes.
+#![tactic(auto)]
+
 ghost use Rattle.std.specs.Prelude.{◌≡◌, ◌+◌, ◌≤◌, true, length, pos, int_lt, slice_index, unsigned_abs};
 ghost use Rattle.arithmetic.specs.Lists.{listed, over};
 ghost use Rattle.text.specs.Text.{Spelled, SpelledSigned, block as block_of, PutIs};

@@ -1,6 +1,8 @@
 // The histogram of a filtered picture, and the threshold between its dark and its bright levels
 // (document 01, "Two means"): counting.rt fills the histogram, ends.rt has the levels present and
 // the start, means.rt the rounds until the threshold rests.
+#![tactic(auto)]
+
 ghost use Rattle.std.specs.Prelude.{◌≡◌};
 ghost use Rattle.threshold.specs.Histogram.{tally, CountIs};
 ghost use Rattle.threshold.specs.TwoMeans.{TwoMeansIs, refused};

@@ -1,6 +1,8 @@
 // What is never mixed (document 01: "Pixels, picometres and eighths of a level are kept apart").
 // Each unit is a type of its own, and its number stands in a private field: another crate makes one
 // with `of` and takes it apart with `amount`, in a conversion, and in no other way.
+#![tactic(auto)]
+
 ghost use Rattle.std.specs.Prelude.{◌≡◌};
 ghost use Rattle.units.specs.Units.{sixteenths, picometres, eighths};
 
