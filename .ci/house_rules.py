@@ -1,13 +1,12 @@
 """The rules of the house that a program can look after, each a function: it takes a tree and gives back what breaks it.
 
-Its docstring is the rule; those about words stand in words.py, those about proofs in proofs.py. `.ci/house` runs them all; `.ci/house-test` shows each of them to fail
+Its docstring is the rule; those about words stand in words.py. `.ci/house` runs them all; `.ci/house-test` shows each of them to fail
 on planted faults.
 """
 import re
 import subprocess
 
 from promises import Page
-from proofs import apart, bare_needs, in_its_place, named_parts, named_places, short_lines, short_paths, whole_facts
 from tree import brought, items, outside, parted, source
 from words import all_there, one_name, short_notes
 
@@ -336,8 +335,7 @@ def small_rooms(tree):
 
 
 RULES = (layout, no_requires, has_ensures, promised, determined, wrong_programs, telling_edits, one_table, one_version, one_bound,
-         declared, readme, contract_alone, small_rooms, short_notes, one_name, all_there, short_lines, short_paths, named_places,
-         named_parts, whole_facts, bare_needs, in_its_place, apart)
+         declared, readme, contract_alone, small_rooms, short_notes, one_name, all_there)
 
 
 def broken(rule, tree):

@@ -26,7 +26,7 @@ def sections():
 def reached():
     """rules.md: every public call and every file of definitions is reached from it, and each section says where its rule stands"""
     page = text_of('docs/rules.md')
-    files = [path.relative_to(TOP) for path in sorted(TOP.glob('crates/*/specs/*.antt')) if path.name not in ('Lib.antt', 'inside.antt')]
+    files = [path.relative_to(TOP) for path in sorted(TOP.glob('crates/*/specs/*.antt')) if path.name != 'Lib.antt']
     short = [f'{heading} has no part "{part}"' for heading, parts in sections() for part in PARTS if part not in parts]
     return ([f'{name} is not reached' for name in Tree(TOP).public if f'`{name}`' not in page]
             + [f'{path} is not reached' for path in files if f'](../{path})' not in page]
@@ -74,11 +74,11 @@ def sent_on():
 
 def model_proof():
     """PROVING.md: the function and the proof that it explains are those of the crate"""
-    page, crate = text_of('docs/PROVING.md'), 'crates/arithmetic/'
+    page, crate = text_of('docs/PROVING.md'), 'crates/picture/'
     blocks = {kind: block for kind, block in re.findall(r'^```(\w+)\n(.*?)^```$', page, re.M | re.S)}
-    code = text_of(f'{crate}src/values.rt')
-    function = code[code.index('fn greatest'):]
-    return (['its proof'] * (blocks['antt'] != text_of(f'{crate}proofs/values/greatest/Proof.antt'))
+    code = text_of(f'{crate}src/lib.rt')
+    function = code[code.index('pub fn shape'):]
+    return (['its proof'] * (blocks['antt'] != text_of(f'{crate}proofs/shape/Proof.antt'))
             + ['its function'] * (blocks['rust'].split() != function.split()))
 
 
