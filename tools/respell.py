@@ -25,6 +25,9 @@ OTHERWISE = {
     ("Rattle.beam.proofs.Parts", "no-row"): "each_no_row",
     ("Rattle.filter.proofs.Ranks", "one_below"): "one_where_below",
     ("Rattle.filter.proofs.Ranks", "none_below"): "none_where_below",
+    ("Rattle.records.proofs.Outcomes", "size-of"): "size_is",
+    ("Rattle.threshold.proofs.Rounds", "high-number"): "high_number_is",
+    ("Rattle.threshold.proofs.Rounds", "low-number"): "low_number_is",
 }
 # A field that would hide a definition of its own record.
 FIELDS = {"pass-three": "is_pass_three", "pass-two": "is_pass_two"}
@@ -58,10 +61,16 @@ def module_of(path):
 
 
 def declared(path):
+    """The names that a file declares, those in its modules with arguments (`module _ (..) where`) too."""
     found = set()
+    inside = False
     for line in open(path, encoding="utf-8"):
+        if line.strip() and not line.startswith((" ", "--")):
+            inside = line.startswith("module _")
+        if inside and line.startswith("  ") and not line.startswith("   "):
+            line = line[2:]
         m = DECLARED.match(line)
-        if m and not line.startswith((" ", "--", "use ", "pub use ")) and m.group(1) not in ("module", "mod"):
+        if m and not line.startswith((" ", "--", "use ", "pub use ", "where")) and m.group(1) not in ("module", "mod"):
             found.add(m.group(1))
     return found
 

@@ -38,14 +38,14 @@ by_neighbours {P} {k} falling at past =
 -- The law of halving. An interval has numbers in it; its middle becomes its lower end where it has the property, and its
 -- upper end where it does not; and an interval of width 1 is the answer.
 module _ {P : ℕ → Type 0} {lo hi : ℕ} (in-it : Between P lo hi) where
-  pub not-empty : lo < hi
-  not-empty = in-it.high lo in-it.low
+  pub not_empty : lo < hi
+  not_empty = in-it.high lo in-it.low
 
-  pub upper-half : {mid : ℕ} → P mid → Between P mid hi
-  upper-half at = record { low = at; high = in-it.high }
+  pub upper_half : {mid : ℕ} → P mid → Between P mid hi
+  upper_half at = record { low = at; high = in-it.high }
 
-  pub lower-half : {mid : ℕ} → Falling P → ¬ P mid → Between P lo mid
-  lower-half falling past =
+  pub lower_half : {mid : ℕ} → Falling P → ¬ P mid → Between P lo mid
+  lower_half falling past =
       record { low = in-it.low; high = λ (k : ℕ) (h : P k). lt_of_not-le (λ le. past (falling _ _ le h)) }
 
   pub narrowed : hi ≤ lo + 1 → Greatest P lo

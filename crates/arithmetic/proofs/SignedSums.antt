@@ -51,17 +51,17 @@ sum_natural (suc n) z f p = rw (sum_natural n z f p, p n)
 
 -- the last two of the numbers that p picks
 module _ (n : ℕ) (p : ℕ → Bool) where
-  pub over-natural : (z : ℕ → ℤ) (f : ℕ → ℕ) → ((i : ℕ) → z i ≡ pos (f i)) → sum_overℤ n p z ≡ pos (sum_over n p f)
+  pub over_natural : (z : ℕ → ℤ) (f : ℕ → ℕ) → ((i : ℕ) → z i ≡ pos (f i)) → sum_overℤ n p z ≡ pos (sum_over n p f)
   unfolding sum_over sum_overℤ
-  over-natural z f is = sum_natural n (λ i. cond (p i) (z i) (pos 0)) (λ i. cond (p i) (f i) 0) (λ i. picked (p i) i)
+  over_natural z f is = sum_natural n (λ i. cond (p i) (z i) (pos 0)) (λ i. cond (p i) (f i) 0) (λ i. picked (p i) i)
     where
       picked : (b : Bool) (i : ℕ) → cond b (z i) (pos 0) ≡ pos (cond b (f i) 0)
       picked true i = is i
       picked false i = refl
 
-  pub over-minus : (f g : ℕ → ℕ) → sum_overℤ n p (λ i. pos (f i) -ℤ pos (g i)) ≡ pos (sum_over n p f) -ℤ pos (sum_over n p g)
+  pub over_minus : (f g : ℕ → ℕ) → sum_overℤ n p (λ i. pos (f i) -ℤ pos (g i)) ≡ pos (sum_over n p f) -ℤ pos (sum_over n p g)
   unfolding sum_over sum_overℤ
-  over-minus f g =
+  over_minus f g =
       sum_diff n (λ i. cond (p i) (pos (f i) -ℤ pos (g i)) (pos 0)) (λ i. cond (p i) (f i) 0) (λ i. cond (p i) (g i) 0) (λ i. picked (p i) i)
       ∙ sym (pos_minus (sum_over n p f) (sum_over n p g))
     where

@@ -95,15 +95,15 @@ module _ (f : ℕ → ℕ) where
   line t (suc n) = omega (arith, line t n, twice t (f n), mul-add t (sum n f) (f n), suc-mul n (t * t))
 
   -- the square of a sum is at most n times the sum of the squares (Cauchy and Schwarz)
-  pub square-of-sum : (n : ℕ) → sum n f * sum n f ≤ n * sum n (λ i. f i * f i)
+  pub square_of_sum : (n : ℕ) → sum n f * sum n f ≤ n * sum n (λ i. f i * f i)
   unfolding sum
-  square-of-sum zero = omega arith
-  square-of-sum (suc n) =
+  square_of_sum zero = omega arith
+  square_of_sum (suc n) =
       let s = sum n f in
       let q = sum n (λ i. f i * f i) in
       omega (
         arith,
-        square-of-sum n,
+        square_of_sum n,
         line (f n) n,
         add-mul s (f n) (s + f n),
         mul-add s s (f n),

@@ -17,7 +17,7 @@ use Rattle.scan.specs.Ring.{held_in}
 use Rattle.scan.specs.Held.{Held, after, given, no_row}
 use Rattle.scan.specs.Scan.{Scanned, at_front, due, rows_given, RowsIs, end_given, EndIs}
 use Rattle.beam.specs.Calls.{Call, start-call, rows-call, end-call, CallIs, MadeTwice, CallsTwice, Seen, seen}
-use Rattle.beam.proofs.Answers.{start_done, Came, rows-done, Finished, end-done, begun_zeros, left_is, left-begun, left-held}
+use Rattle.beam.proofs.Answers.{start_done, Came, rows_done, Finished, end_done, begun_zeros, left_is, left_begun, left_held}
 use Rattle.beam.proofs.Grouping.{refused_keeps}
 
 -- what can be told from a memory of 16-bit numbers
@@ -98,12 +98,12 @@ rows_view : (held levels output : List ℕ) (r : Scanned) → came_of held ≤ 6
 unfolding memory
 rows_view held levels output r few bytes came =
     subst (View _ _ _ _) (sym (left_is held levels output r few bytes came)) (record {
-      begun = left-begun held levels output r few bytes came;
+      begun = left_begun held levels output r few bytes came;
       width = refl;
       height = refl;
       came = refl;
       few = let within = came.within in let height = came.begun.height.1 in omega (arith, within, height, few);
-      holds = left-held held levels output r few bytes came;
+      holds = left_held held levels output r few bytes came;
     })
 
 rows_then : {w h k : ℕ} {q : Held} (held levels output : List ℕ) (r : Scanned) → View w h k q held → AtMost 255 levels → r.number ≡ 0
@@ -111,7 +111,7 @@ rows_then : {w h k : ℕ} {q : Held} (held levels output : List ℕ) (r : Scanne
     → View w h (k + length levels / w) (after q (row_at w levels) (length levels / w)) r.held
 rows_then {w} {h} {k} {q} held levels output r v bytes z d =
     in_view (λ a b c p. View a b (c + length levels / a) (after p (row_at a levels) (length levels / a)) r.held) v
-    (rows_view held levels output r (rw v.came v.few) bytes (rows-done held levels output r z d))
+    (rows_view held levels output r (rw v.came v.few) bytes (rows_done held levels output r z d))
 
 end_view : (held output : List ℕ) (r : Scanned) → Finished held output r
     → View (width_of held) (height_of held) (height_of held + 3)
@@ -126,7 +126,7 @@ end_then : {w h k : ℕ} {q : Held} (held output : List ℕ) (r : Scanned) → V
     → View w h (h + 3) (held_in w h (h + 3) (zeros 6144)) r.held
 end_then held output r v z d =
     in_view (λ a b c p. View a b (b + 3) (held_in a b (b + 3) (zeros 6144)) r.held) v
-    (end_view held output r (end-done held output r z d))
+    (end_view held output r (end_done held output r z d))
 
 start_then : (held : List ℕ) (w h n : ℕ) (left : List ℕ) → n ≡ 0 → StartIs held w h n left → View w h 0 (held_in w h 0 (zeros 6144)) left
 start_then held w h n left z d =

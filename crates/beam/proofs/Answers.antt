@@ -15,7 +15,7 @@ use Rattle.scan.specs.Ring.{held_in, later}
 use Rattle.scan.specs.Held.{after}
 use Rattle.scan.specs.Scan.{Scanned, scanned, at_front, due, rows_given, rows_held, RowsIs, end_given, EndIs}
 use Rattle.scan.specs.Asked.{Ready}
-use Rattle.scan.proofs.Calls.{Fitting, so_far, length-later, is-ready, rows_fit, rows-due, end-long}
+use Rattle.scan.proofs.Calls.{Fitting, so_far, length_later, is_ready, rows_fit, rows-due, end_long}
 
 -- ---- a start
 pub start_refused : (held left : List ℕ) (w h n : ℕ) → n ≢ 0 → StartIs held w h n left → left ≡ held
@@ -43,12 +43,12 @@ not_done : {r : Scanned} (n : ℕ) {rows : ℕ} {held output : List ℕ} → n �
 not_done n other z is = other (sym (number_of is) ∙ z)
 
 module _ (held levels output : List ℕ) (r : Scanned) where
-  pub rows-refused : r.number ≢ 0 → RowsIs held levels output r → r.held ≡ held
-  rows-refused some (inl a) = refused_with a.1
-  rows-refused some (inr (b, inl a)) = refused_with a.1
-  rows-refused some (inr (b, inr (c, inl a))) = refused_with a.1
-  rows-refused some (inr (b, inr (c, inr (d, inl a)))) = refused_with a.1
-  rows-refused some (inr (b, inr (c, inr (d, inr (e, is))))) = absurd (some (number_of is))
+  pub rows_refused : r.number ≢ 0 → RowsIs held levels output r → r.held ≡ held
+  rows_refused some (inl a) = refused_with a.1
+  rows_refused some (inr (b, inl a)) = refused_with a.1
+  rows_refused some (inr (b, inr (c, inl a))) = refused_with a.1
+  rows_refused some (inr (b, inr (c, inr (d, inl a)))) = refused_with a.1
+  rows_refused some (inr (b, inr (c, inr (d, inr (e, is))))) = absurd (some (number_of is))
 
   pub record Came : Type 0 where
     pub begun : Begun held
@@ -58,12 +58,12 @@ module _ (held levels output : List ℕ) (r : Scanned) where
     pub held-is : r.held ≡ rows_held held levels
     pub output-is : r.output ≡ at_front (rows_given held levels) output
 
-  pub rows-done : r.number ≡ 0 → RowsIs held levels output r → Came
-  rows-done z (inl a) = absurd (not_done 1 (λ e. omega (arith, e)) z a.1)
-  rows-done z (inr (b, inl a)) = absurd (not_done 20 (λ e. omega (arith, e)) z a.1)
-  rows-done z (inr (b, inr (c, inl a))) = absurd (not_done 21 (λ e. omega (arith, e)) z a.1)
-  rows-done z (inr (b, inr (c, inr (d, inl a)))) = absurd (not_done 3 (λ e. omega (arith, e)) z a.1)
-  rows-done z (inr (b, inr (c, inr (d, inr (e, is))))) = record {
+  pub rows_done : r.number ≡ 0 → RowsIs held levels output r → Came
+  rows_done z (inl a) = absurd (not_done 1 (λ e. omega (arith, e)) z a.1)
+  rows_done z (inr (b, inl a)) = absurd (not_done 20 (λ e. omega (arith, e)) z a.1)
+  rows_done z (inr (b, inr (c, inl a))) = absurd (not_done 21 (λ e. omega (arith, e)) z a.1)
+  rows_done z (inr (b, inr (c, inr (d, inl a)))) = absurd (not_done 3 (λ e. omega (arith, e)) z a.1)
+  rows_done z (inr (b, inr (c, inr (d, inr (e, is))))) = record {
     begun = b;
     whole = c;
     within = d;
@@ -87,11 +87,11 @@ module _ (held output : List ℕ) (r : Scanned) where
     pub held-is : r.held ≡ memory (width_of held) (height_of held) (height_of held + 3) (zeros 6144) (drop 6147 held)
     pub output-is : r.output ≡ at_front (end_given held) output
 
-  pub end-done : r.number ≡ 0 → EndIs held output r → Finished
-  end-done z (inl a) = absurd (not_done 1 (λ e. omega (arith, e)) z a.1)
-  end-done z (inr (b, inl a)) = absurd (not_done 22 (λ e. omega (arith, e)) z a.1)
-  end-done z (inr (b, inr (c, inl a))) = absurd (not_done 3 (λ e. omega (arith, e)) z a.1)
-  end-done z (inr (b, inr (c, inr (d, is)))) = record {
+  pub end_done : r.number ≡ 0 → EndIs held output r → Finished
+  end_done z (inl a) = absurd (not_done 1 (λ e. omega (arith, e)) z a.1)
+  end_done z (inr (b, inl a)) = absurd (not_done 22 (λ e. omega (arith, e)) z a.1)
+  end_done z (inr (b, inr (c, inl a))) = absurd (not_done 3 (λ e. omega (arith, e)) z a.1)
+  end_done z (inr (b, inr (c, inr (d, is)))) = record {
     begun = b;
     last = c;
     count = ap (λ (s : Scanned). s.rows) is;
@@ -145,10 +145,10 @@ module _ (held levels output : List ℕ) (r : Scanned) (few : came_of held ≤ 6
 
   then : Ready w h (k + n) (later w h k rows (row_at w levels) n)
       × (held_in w h (k + n) (later w h k rows (row_at w levels) n) ≡ after (held_in w h k rows) (row_at w levels) n)
-  then = so_far w h k rows (row_at w levels) (is-ready held came.begun few) n fit short
+  then = so_far w h k rows (row_at w levels) (is_ready held came.begun few) n fit short
 
   rows_long : length (later w h k rows (row_at w levels) n) ≡ 6144
-  rows_long = length-later w h k rows (row_at w levels) (is-ready held came.begun few) n fit short ∙ length_rows held came.begun.long
+  rows_long = length_later w h k rows (row_at w levels) (is_ready held came.begun few) n fit short ∙ length_rows held came.begun.long
 
   abbrev left : List ℕ
   left = memory w h (k + n) (later w h k rows (row_at w levels) n) (drop 6147 held)
@@ -157,31 +157,31 @@ module _ (held levels output : List ℕ) (r : Scanned) (few : came_of held ≤ 6
   unfolding rows_held rows_of
   left_is = came.held-is
 
-  left-rows : rows_of left ≡ later w h k rows (row_at w levels) n
-  left-rows = rows_of_memory w h (k + n) (later w h k rows (row_at w levels) n) (drop 6147 held) rows_long
+  left_rows : rows_of left ≡ later w h k rows (row_at w levels) n
+  left_rows = rows_of_memory w h (k + n) (later w h k rows (row_at w levels) n) (drop 6147 held) rows_long
 
-  pub left-begun : Begun left
+  pub left_begun : Begun left
   unfolding memory
-  left-begun = record {
+  left_begun = record {
     long = length_memory w h (k + n) (later w h k rows (row_at w levels) n) (drop 6147 held) rows_long;
     width = came.begun.width;
     height = came.begun.height;
-    ranges = subst (Ranges w) (sym left-rows) then.0.ranges;
+    ranges = subst (Ranges w) (sym left_rows) then.0.ranges;
   }
 
-  pub left-held : held_in w h (k + n) (rows_of left) ≡ after (held_in w h k (rows_of held)) (row_at w levels) n
+  pub left_held : held_in w h (k + n) (rows_of left) ≡ after (held_in w h k (rows_of held)) (row_at w levels) n
   unfolding rows_of
-  left-held = ap (held_in w h (k + n)) left-rows ∙ then.1
+  left_held = ap (held_in w h (k + n)) left_rows ∙ then.1
 
-  pub given-long : length (rows_given held levels) ≡ due k n * w
+  pub given_long : length (rows_given held levels) ≡ due k n * w
   unfolding rows_given rows_of
-  given-long = rows-due held came.begun levels output bytes few came.whole came.within
+  given_long = rows-due held came.begun levels output bytes few came.whole came.within
 
   pub gave : take (r.rows * w) r.output ≡ rows_given held levels
   gave =
       ap (take (r.rows * w)) came.output-is
       ∙ take_at (rows_given held levels) (drop (length (rows_given held levels)) output) (r.rows * w)
-      (given-long ∙ ap (λ (z : ℕ). z * w) (sym came.count))
+      (given_long ∙ ap (λ (z : ℕ). z * w) (sym came.count))
 
 -- and so at the end
 pub end_gave : (held output : List ℕ) (r : Scanned) → (f : Finished held output r)
@@ -189,4 +189,4 @@ pub end_gave : (held output : List ℕ) (r : Scanned) → (f : Finished held out
 end_gave held output r f =
     ap (take (r.rows * width_of held)) f.output-is
     ∙ take_at (end_given held) (drop (length (end_given held)) output) (r.rows * width_of held)
-    (end-long held f.begun f.last ∙ ap (λ (z : ℕ). z * width_of held) (sym f.count))
+    (end_long held f.begun f.last ∙ ap (λ (z : ℕ). z * width_of held) (sym f.count))

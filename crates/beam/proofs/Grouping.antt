@@ -22,9 +22,9 @@ use Rattle.scan.proofs.Calls.{levels-are}
 use Rattle.beam.specs.Calls.{Call, start-call, rows-call, end-call, CallIs, Made, Calls}
 use Rattle.beam.specs.Calls.{Told, told-nothing, since, given_out, tell_done, tell, told}
 use Rattle.beam.proofs.Whole.{rows_give}
-use Rattle.beam.proofs.Parts.{given-same, given-add, row-front, after_more, given-more, each_no_row}
-use Rattle.beam.proofs.Answers.{start_refused, start_done, rows-refused, Came, rows-done, end_refused, Finished, end-done}
-use Rattle.beam.proofs.Answers.{begun_zeros, left_is, left-begun, left-held, given-long, gave, end_gave}
+use Rattle.beam.proofs.Parts.{given_same, given_add, row_front, after_more, given_more, each_no_row}
+use Rattle.beam.proofs.Answers.{start_refused, start_done, rows_refused, Came, rows_done, end_refused, Finished, end_done}
+use Rattle.beam.proofs.Answers.{begun_zeros, left_is, left_begun, left_held, given_long, gave, end_gave}
 
 -- ---- what a memory means
 -- k rows have come since a good start, the levels x, and their rows g were given out
@@ -99,7 +99,7 @@ module _ (held x g output : List ℕ) (r : Scanned) where
       grown : length g + length (given_out w r) ≡ (k + n - 3) * w
       grown =
           let a = so_far.count in
-          let b = ap length (gave held levels output r few bytes came) ∙ given-long held levels output r few bytes came in
+          let b = ap length (gave held levels output r few bytes came) ∙ given_long held levels output r few bytes came in
           let d : k - 3 + due k n ≡ k + n - 3 = omega arith in
           rw (a, b) (sym (add-mul (k - 3) (due k n) w) ∙ ap (λ (z : ℕ). z * w) d)
 
@@ -107,7 +107,7 @@ module _ (held x g output : List ℕ) (r : Scanned) where
           (memory w h (k + n) (later w h k (take (6147 - 3) (drop 3 held)) (row_at w levels) n) (drop 6147 held))
       unfolding memory
       then = record {
-        begun = left-begun held levels output r few bytes came;
+        begun = left_begun held levels output r few bytes came;
         width = refl;
         height = refl;
         few = in_reach;
@@ -116,10 +116,10 @@ module _ (held x g output : List ℕ) (r : Scanned) where
             let b = levels-are held came.begun levels output bytes few came.whole came.within in
             length-append x levels ∙ rw (add-mul k n w) (omega (arith, a, b));
         holds =
-            left-held held levels output r few bytes came
+            left_held held levels output r few bytes came
             ∙ ap (λ (q : Held). after q (row_at w levels) n) so_far.holds
             ∙ sym (after_more w k x levels so_far.long nothing n);
-        gave_all = rw (new, so_far.gave_all) (sym (given-more w k x levels so_far.long nothing n));
+        gave_all = rw (new, so_far.gave_all) (sym (given_more w k x levels so_far.long nothing n));
         count = length-append g (given_out w r) ∙ grown;
       }
 
@@ -143,13 +143,13 @@ module _ (held x g output : List ℕ) (r : Scanned) where
       none-given =
           let none : due k n * w ≡ 0 = ap (λ (z : ℕ). z * w) (let d : due k n ≡ 0 = omega (arith, no_rows) in d) ∙ zero-mul w in
           no_elements (given_out w r)
-          (ap length (gave held levels output r few_past bytes came) ∙ given-long held levels output r few_past bytes came ∙ none)
+          (ap length (gave held levels output r few_past bytes came) ∙ given_long held levels output r few_past bytes came ∙ none)
 
       then-past : Ended w h (x ++ levels) (g ++ given_out w r)
           (memory w h (k + n) (later w h k (take (6147 - 3) (drop 3 held)) (row_at w levels) n) (drop 6147 held))
       unfolding memory
       then-past = record {
-        begun = left-begun held levels output r few_past bytes came;
+        begun = left_begun held levels output r few_past bytes came;
         width = refl;
         height = refl;
         past = let p = over.past in omega (arith, p, no_rows);
@@ -172,11 +172,11 @@ module _ (held x g output : List ℕ) (r : Scanned) where
       last-rows =
           end_gave held output r done
           ∙ ap (λ (q : Held). given q no_row 3) so_far.holds
-          ∙ given-same (after nothing (row_at w x) k) no_row (row_at w []) 3 (λ i p. sym (each_no_row w i))
+          ∙ given_same (after nothing (row_at w x) k) no_row (row_at w []) 3 (λ i p. sym (each_no_row w i))
 
       all-rows : g ++ given_out w r ≡ pass_three w h x
       all-rows =
-          rw (last-rows, so_far.gave_all) (sym (given-more w k x [] so_far.long nothing 3))
+          rw (last-rows, so_far.gave_all) (sym (given_more w k x [] so_far.long nothing 3))
           ∙ ap (λ (z : List ℕ). given nothing (row_at w z) (k + 3)) (append-nil x)
           ∙ ap (λ (z : ℕ). given nothing (row_at w x) (z + 3)) done.last
           ∙ rows_give w h x is-picture
@@ -215,21 +215,21 @@ means_done t held (start-call w h) r m z is =
 means_done told-nothing held (rows-call levels output) r m z is = tt
 means_done (since w h x g false) held (rows-call levels output) r m z is =
     at_sides (λ a b. Running a b x g held → Running a b (x ++ levels) (g ++ given_out a r) r.held) m.width m.height
-    (runs_on held x g output r levels is.0 (rows-done held levels output r z is.1)) m
+    (runs_on held x g output r levels is.0 (rows_done held levels output r z is.1)) m
 means_done (since w h x g true) held (rows-call levels output) r m z is =
     at_sides (λ a b. Ended a b x g held → Ended a b (x ++ levels) (g ++ given_out a r) r.held) m.width m.height
-    (stays-ended held x g output r levels is.0 (rows-done held levels output r z is.1)) m
+    (stays-ended held x g output r levels is.0 (rows_done held levels output r z is.1)) m
 means_done told-nothing held (end-call output) r m z is = tt
 means_done (since w h x g false) held (end-call output) r m z is =
     at_sides (λ a b. Running a b x g held → Ended a b x (g ++ given_out a r) r.held) m.width m.height
-    (ends held x g output r (end-done held output r z is)) m
+    (ends held x g output r (end_done held output r z is)) m
 means_done (since w h x g true) held (end-call output) r m z is =
-    absurd (at_sides (λ a b. Ended a b x g held → ⊥) m.width m.height (no_second held x g output r (end-done held output r z is)) m)
+    absurd (at_sides (λ a b. Ended a b x g held → ⊥) m.width m.height (no_second held x g output r (end_done held output r z is)) m)
 
 -- "A refused call changes nothing held."
 pub refused_keeps : (held : List ℕ) (c : Call) (r : Scanned) → r.number ≢ 0 → CallIs held c r → r.held ≡ held
 refused_keeps held (start-call w h) r some is = start_refused held r.held w h r.number some is.0
-refused_keeps held (rows-call levels output) r some is = rows-refused held levels output r some is.1
+refused_keeps held (rows-call levels output) r some is = rows_refused held levels output r some is.1
 refused_keeps held (end-call output) r some is = end_refused held output r some is
 
 means_call : (t : Told) (held : List ℕ) (c : Call) (r : Scanned) → Means t held → CallIs held c r → Means (tell t c r) r.held
@@ -258,9 +258,9 @@ module _ (held : List ℕ) (ms : List Made) (w h : ℕ) (x g : List ℕ) (calls 
       (over.picture, over.whole)
 
   -- before that, after k rows, the rows given out together are the first k − 3 of it, whatever rows y follow
-  pub rows-so-far : told told-nothing ms ≡ since w h x g false
+  pub rows_so_far : told told-nothing ms ≡ since w h x g false
       → (k : ℕ) × (k ≤ h) × (length x ≡ k * w) × ((y : List ℕ) → length (x ++ y) ≡ w * h → g ≡ take ((k - 3) * w) (pass_three w h (x ++ y)))
-  rows-so-far is =
+  rows_so_far is =
       let so_far : Running w h x g (left_by held ms) =
       subst (λ (t : Told). Means t (left_by held ms)) is (means told-nothing held ms tt calls) in
       (came_of (left_by held ms), so_far.few, so_far.long, λ y l. first_rows so_far y l)
@@ -272,10 +272,10 @@ module _ (held : List ℕ) (ms : List Made) (w h : ℕ) (x g : List ℕ) (calls 
           let few = so_far.few in
           let e : k + (h + 3 - k) ≡ h + 3 = omega (arith, few) in
           let others = given (after nothing (row_at w (x ++ y)) k) (λ i. row_at w (x ++ y) (k + i)) (h + 3 - k) in
-          let front = given-same nothing (row_at w (x ++ y)) (row_at w x) k (row-front w k x y so_far.long) in
+          let front = given_same nothing (row_at w (x ++ y)) (row_at w x) k (row_front w k x y so_far.long) in
           let all : pass_three w h (x ++ y) ≡ g ++ others =
           sym (rows_give w h (x ++ y) l)
           ∙ ap (given nothing (row_at w (x ++ y))) (sym e)
-          ∙ given-add nothing (row_at w (x ++ y)) k (h + 3 - k)
+          ∙ given_add nothing (row_at w (x ++ y)) k (h + 3 - k)
           ∙ ap (λ (z : List ℕ). z ++ others) (front ∙ sym so_far.gave_all) in
           sym (ap (take ((k - 3) * w)) all ∙ take_at g others ((k - 3) * w) so_far.count)

@@ -17,28 +17,28 @@ module _ (held : Held) (f g : ℕ → List ℕ) where
   after_same zero p = refl
   after_same (suc n) p = rw (after_same n (λ i h. p i (omega arith)), p n (omega arith))
 
-  pub given-same : (n : ℕ) → ((i : ℕ) → i < n → f i ≡ g i) → given held f n ≡ given held g n
+  pub given_same : (n : ℕ) → ((i : ℕ) → i < n → f i ≡ g i) → given held f n ≡ given held g n
   unfolding given joined
-  given-same zero p = refl
-  given-same (suc n) p = rw (given-same n (λ i h. p i (omega arith)), after_same n (λ i h. p i (omega arith)), p n (omega arith))
+  given_same zero p = refl
+  given_same (suc n) p = rw (given_same n (λ i h. p i (omega arith)), after_same n (λ i h. p i (omega arith)), p n (omega arith))
 
 -- first a of them, then b
 module _ (held : Held) (f : ℕ → List ℕ) (a : ℕ) where
-  pub after-add : (b : ℕ) → after held f (a + b) ≡ after (after held f a) (λ i. f (a + i)) b
+  pub after_add : (b : ℕ) → after held f (a + b) ≡ after (after held f a) (λ i. f (a + i)) b
   unfolding after
-  after-add zero = rw add-zero
-  after-add (suc b) = rw (add-suc, after-add b)
+  after_add zero = rw add-zero
+  after_add (suc b) = rw (add-suc, after_add b)
 
-  pub given-add : (b : ℕ) → given held f (a + b) ≡ given held f a ++ given (after held f a) (λ i. f (a + i)) b
+  pub given_add : (b : ℕ) → given held f (a + b) ≡ given held f a ++ given (after held f a) (λ i. f (a + i)) b
   unfolding given joined
-  given-add zero = rw add-zero (sym (append-nil (given held f a)))
-  given-add (suc b) = rw (add-suc, given-add b, after-add b, append_assoc)
+  given_add zero = rw add-zero (sym (append-nil (given held f a)))
+  given_add (suc b) = rw (add-suc, given_add b, after_add b, append_assoc)
 
 -- the rows of a list, and of one behind it
 module _ (w n : ℕ) (l x : List ℕ) (whole : length l ≡ n * w) where
-  pub row-front : (i : ℕ) → i < n → row_at w (l ++ x) i ≡ row_at w l i
+  pub row_front : (i : ℕ) → i < n → row_at w (l ++ x) i ≡ row_at w l i
   unfolding row_at
-  row-front i h = rw (take-append-le (i * w + w) l x (omega (arith, mul-le-mul_right w h, suc-mul i w)))
+  row_front i h = rw (take-append-le (i * w + w) l x (omega (arith, mul-le-mul_right w h, suc-mul i w)))
 
   pub row_back : (i : ℕ) → row_at w (l ++ x) (n + i) ≡ row_at w x i
   unfolding row_at
@@ -49,17 +49,17 @@ module _ (w n : ℕ) (l x : List ℕ) (whole : length l ≡ n * w) where
 
   pub after_more : (held : Held) (b : ℕ) → after held (row_at w (l ++ x)) (n + b) ≡ after (after held (row_at w l) n) (row_at w x) b
   after_more held b =
-      after-add held (row_at w (l ++ x)) n b
-      ∙ ap (λ (k : Held). after k (λ i. row_at w (l ++ x) (n + i)) b) (after_same held (row_at w (l ++ x)) (row_at w l) n row-front)
+      after_add held (row_at w (l ++ x)) n b
+      ∙ ap (λ (k : Held). after k (λ i. row_at w (l ++ x) (n + i)) b) (after_same held (row_at w (l ++ x)) (row_at w l) n row_front)
       ∙ after_same (after held (row_at w l) n) (λ i. row_at w (l ++ x) (n + i)) (row_at w x) b (λ i h. row_back i)
 
-  pub given-more : (held : Held) (b : ℕ)
+  pub given_more : (held : Held) (b : ℕ)
       → given held (row_at w (l ++ x)) (n + b) ≡ given held (row_at w l) n ++ given (after held (row_at w l) n) (row_at w x) b
-  given-more held b =
-      let first = given-same held (row_at w (l ++ x)) (row_at w l) n row-front in
-      let then = after_same held (row_at w (l ++ x)) (row_at w l) n row-front in
-      let second = given-same (after held (row_at w l) n) (λ i. row_at w (l ++ x) (n + i)) (row_at w x) b (λ i h. row_back i) in
-      given-add held (row_at w (l ++ x)) n b
+  given_more held b =
+      let first = given_same held (row_at w (l ++ x)) (row_at w l) n row_front in
+      let then = after_same held (row_at w (l ++ x)) (row_at w l) n row_front in
+      let second = given_same (after held (row_at w l) n) (λ i. row_at w (l ++ x) (n + i)) (row_at w x) b (λ i h. row_back i) in
+      given_add held (row_at w (l ++ x)) n b
       ∙ ap (λ (k : Held). given held (row_at w (l ++ x)) n ++ given k (λ i. row_at w (l ++ x) (n + i)) b) then
       ∙ ap (λ (g : List ℕ). g ++ given (after held (row_at w l) n) (λ i. row_at w (l ++ x) (n + i)) b) first
       ∙ ap (λ (g : List ℕ). given held (row_at w l) n ++ g) second

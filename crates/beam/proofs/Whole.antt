@@ -13,7 +13,7 @@ use Rattle.arithmetic.proofs.Lists.{length_joined, joined_same}
 use Rattle.filter.specs.Median.{row_of, pass_row, pass}
 use Rattle.filter.specs.Filter.{pass_one, pass_two, pass_three}
 use Rattle.filter.proofs.Blocks.{length_row}
-use Rattle.filter.proofs.Drawn.{length-pass}
+use Rattle.filter.proofs.Drawn.{length_pass}
 use Rattle.memory.specs.Memory.{row_at}
 use Rattle.scan.specs.Held.{Two, Held, completed, followed, nothing, pass_one_row, pass_two_row, pass_three_row, step, after, given}
 
@@ -65,24 +65,24 @@ module _ (f : ℕ → List ℕ) where
   unfoldable pub held : ℕ → Held
   held k = record { levels = two_before f k; halves = two_before ones k; quarters = two_before twos k }
 
-  halves-is : (k : ℕ) → pass_one_row (held k) (f k) ≡ ones k
+  halves_is : (k : ℕ) → pass_one_row (held k) (f k) ≡ ones k
   unfolding pass_one_row held
-  halves-is k = completes f k
+  halves_is k = completes f k
 
-  quarters-is : (k : ℕ) → pass_two_row (held k) (f k) ≡ twos k
+  quarters_is : (k : ℕ) → pass_two_row (held k) (f k) ≡ twos k
   unfolding pass_two_row held
-  quarters-is k = ap (completed (two_before ones k)) (halves-is k) ∙ completes ones k
+  quarters_is k = ap (completed (two_before ones k)) (halves_is k) ∙ completes ones k
 
-  eighths-is : (k : ℕ) → pass_three_row (held k) (f k) ≡ threes k
+  eighths_is : (k : ℕ) → pass_three_row (held k) (f k) ≡ threes k
   unfolding pass_three_row held
-  eighths-is k = ap (completed (two_before twos k)) (quarters-is k) ∙ completes twos k
+  eighths_is k = ap (completed (two_before twos k)) (quarters_is k) ∙ completes twos k
 
   step_is : (k : ℕ) → step (held k) (f k) ≡ held (suc k)
   unfolding step held
   step_is k = λ i. record {
     levels = follows f k i;
-    halves = (ap (followed (two_before ones k)) (halves-is k) ∙ follows ones k) i;
-    quarters = (ap (followed (two_before twos k)) (quarters-is k) ∙ follows twos k) i;
+    halves = (ap (followed (two_before ones k)) (halves_is k) ∙ follows ones k) i;
+    quarters = (ap (followed (two_before twos k)) (quarters_is k) ∙ follows twos k) i;
   }
 
   pub after_is : (k : ℕ) → after nothing f k ≡ held k
@@ -91,8 +91,8 @@ module _ (f : ℕ → List ℕ) where
   after_is (suc k) = ap (λ (m : Held). step m (f k)) (after_is k) ∙ step_is k
 
   -- the rows of pass three come three later
-  threes-are : (k : ℕ) → threes k ≡ delayed (delayed (delayed (passed (passed (passed f))))) k
-  threes-are k =
+  threes_are : (k : ℕ) → threes k ≡ delayed (delayed (delayed (passed (passed (passed f))))) k
+  threes_are k =
       let two : twos ≡ delayed (delayed (passed (passed f))) = ap delayed (delayed_passed (passed f)) in
       ap (λ (g : ℕ → List ℕ). delayed (passed g) k) two
       ∙ ap (λ (g : ℕ → List ℕ). delayed g k) (delayed_passed (delayed (passed (passed f))))
@@ -108,7 +108,7 @@ given_is : (f : ℕ → List ℕ) (n : ℕ) → given nothing f (suc (suc (suc n
 unfolding given
 given_is f n =
     joined_same (suc (suc (suc n))) (λ i. pass_three_row (after nothing f i) (f i)) (delayed (delayed (delayed (passed (passed (passed f))))))
-    (λ i. ap (λ (m : Held). pass_three_row m (f i)) (after_is f i) ∙ eighths-is f i ∙ threes-are f i)
+    (λ i. ap (λ (m : Held). pass_three_row m (f i)) (after_is f i) ∙ eighths_is f i ∙ threes_are f i)
     ∙ joined_delayed n (passed (passed (passed f)))
 
 -- ---- the rows of a picture
@@ -157,7 +157,7 @@ row_of_pass : (w h : ℕ) (x : List ℕ) → length x ≡ w * h → (i : ℕ) �
 row_of_pass w h x l i = elim (dec_lt i h) [
   | yes p ↦ row_in_pass w h x l i p ∙ sym (passed_row w x i)
   | no p ↦
-      row_past w h (pass w h x) i (length-pass w h x l) (omega arith)
+      row_past w h (pass w h x) i (length_pass w h x l) (omega arith)
       ∙ sym (passed_none (row_at w x) i (row_past w h x i l (omega arith)))
 ]
 
@@ -171,7 +171,7 @@ pass_is w h x = sym (joined_same h (passed (row_at w x)) (pass_row w x) (passed_
 pass_three_is_row : (w h : ℕ) (x : List ℕ) → length x ≡ w * h → pass_three w h x ≡ joined h (passed (passed (passed (row_at w x))))
 unfolding pass_three pass_two pass_one
 pass_three_is_row w h x l =
-    let second = rows_of_pass w h (pass w h x) (length-pass w h x l) ∙ ap passed (rows_of_pass w h x l) in
+    let second = rows_of_pass w h (pass w h x) (length_pass w h x l) ∙ ap passed (rows_of_pass w h x l) in
     pass_is w h (pass w h (pass w h x)) ∙ ap (λ (f : ℕ → List ℕ). joined h (passed f)) second
 
 -- h rows, and three that are not there

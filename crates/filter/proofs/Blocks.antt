@@ -86,17 +86,17 @@ row_at above here below i p =
 
 -- so what the code makes of three rows, of two and of one is what stands there
 module _ (i f c n v : ℕ) (column : i < n) (next : Next n i f c) where
-  pub cell-of-three : (a h b : List ℕ) → length a ≡ n → length h ≡ n → length b ≡ n → v ≡ twice_median (slice f (f + c) a ++ slice f (f + c) h ++ slice f (f + c) b) → v ≡ get_or (row_of a h b) i 0
+  pub cell_of_three : (a h b : List ℕ) → length a ≡ n → length h ≡ n → length b ≡ n → v ≡ twice_median (slice f (f + c) a ++ slice f (f + c) h ++ slice f (f + c) b) → v ≡ get_or (row_of a h b) i 0
   unfolding block
-  cell-of-three a h b p q r e = e ∙ rw (row_at a h b i (rw q column), near_is i f c a (rw p next), near_is i f c h (rw q next), near_is i f c b (rw r next))
+  cell_of_three a h b p q r e = e ∙ rw (row_at a h b i (rw q column), near_is i f c a (rw p next), near_is i f c h (rw q next), near_is i f c b (rw r next))
 
-  pub cell-of-two : (u l : List ℕ) → length u ≡ n → length l ≡ n → v ≡ twice_median (slice f (f + c) u ++ slice f (f + c) l) → v ≡ get_or (row_of [] u l) i 0
+  pub cell_of_two : (u l : List ℕ) → length u ≡ n → length l ≡ n → v ≡ twice_median (slice f (f + c) u ++ slice f (f + c) l) → v ≡ get_or (row_of [] u l) i 0
   unfolding block
-  cell-of-two u l p q e = e ∙ rw (row_at [] u l i (rw p column), near_nothing i, near_is i f c u (rw p next), near_is i f c l (rw q next))
+  cell_of_two u l p q e = e ∙ rw (row_at [] u l i (rw p column), near_nothing i, near_is i f c u (rw p next), near_is i f c l (rw q next))
 
-  pub cell-of-one : (h : List ℕ) → length h ≡ n → v ≡ twice_median (slice f (f + c) h) → v ≡ get_or (row_of [] h []) i 0
+  pub cell_of_one : (h : List ℕ) → length h ≡ n → v ≡ twice_median (slice f (f + c) h) → v ≡ get_or (row_of [] h []) i 0
   unfolding block
-  cell-of-one h p e = e ∙ rw (row_at [] h [] i (rw p column), near_nothing i, near_is i f c h (rw p next), append-nil (slice f (f + c) h))
+  cell_of_one h p e = e ∙ rw (row_at [] h [] i (rw p column), near_nothing i, near_is i f c h (rw p next), append-nil (slice f (f + c) h))
 
 block_below : (u l : List ℕ) (i : ℕ) → block u l [] i ≡ block [] u l i
 unfolding block

@@ -48,5 +48,5 @@ module _ (f : ℕ → ℕ) (t : List ℕ) where
   each_more k h = omega (arith, each_first k (omega arith), each_first (k + 1) (omega arith), sum_more k (λ i. f (get_or t i 0)))
 
   -- no more than there are levels, where f is at most 1
-  pub each-few : ((x : ℕ) → f x ≤ 1) → (k : ℕ) → k ≤ length t → each f (take k t) ≤ k
-  each-few small k h = omega (arith, each_first k h, sum_most 1 k (λ i. f (get_or t i 0)) (λ i. small (get_or t i 0)))
+  pub each_few : ((x : ℕ) → f x ≤ 1) → (k : ℕ) → k ≤ length t → each f (take k t) ≤ k
+  each_few small k h = omega (arith, each_first k h, sum_most 1 k (λ i. f (get_or t i 0)) (λ i. small (get_or t i 0)))

@@ -63,17 +63,17 @@ most_pass b w h x p =
 
 -- each pass's range: "the first pass is held in halves, the second in quarters, the third in eighths (0 to 2,040)"
 module _ (w h : ℕ) (levels : List ℕ) (p : AtMost 255 levels) where
-  pub most-pass-one : AtMost 510 (pass_one w h levels)
+  pub most_pass_one : AtMost 510 (pass_one w h levels)
   unfolding pass_one
-  most-pass-one = most_pass 255 w h levels p
+  most_pass_one = most_pass 255 w h levels p
 
-  pub most-pass-two : AtMost 1020 (pass_two w h levels)
+  pub most_pass_two : AtMost 1020 (pass_two w h levels)
   unfolding pass_two
-  most-pass-two = most_pass 510 w h (pass_one w h levels) most-pass-one
+  most_pass_two = most_pass 510 w h (pass_one w h levels) most_pass_one
 
-  pub most-pass-three : AtMost 2040 (pass_three w h levels)
+  pub most_pass_three : AtMost 2040 (pass_three w h levels)
   unfolding pass_three
-  most-pass-three = most_pass 1020 w h (pass_two w h levels) most-pass-two
+  most_pass_three = most_pass 1020 w h (pass_two w h levels) most_pass_two
 
 -- a list that is small enough, and of the right length, is a picture that a pass can take
 pub picture_of : (b w h : ℕ) (x y : List ℕ) → Side w × Side h → length x ≡ w * h → x ≡ y → AtMost b y → b ≤ 1020 → Picture w h x

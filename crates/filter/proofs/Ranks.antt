@@ -1,6 +1,6 @@
 -- Document 02, P2: the middle of nine is "a level with at most four below and at most four above". Of any list of n levels and any rank r:
 --   rank_is      what has at most r levels below it and at most n − 1 − r above it is the sorted list's level at rank r
---   rank-has     that level has no more of either
+--   rank_has     that level has no more of either
 --   some_level   and it is one of the levels
 -- and so `middle_of_nine`, the sentence itself. Assumes nothing.
 use mathlib.Core.Path.{◌≡◌, sym, ap, ◌∙◌}
@@ -71,26 +71,26 @@ module _ (s : List ℕ) (up : Ascending s) (r : ℕ) (inside : r < length s) whe
       omega (arith, all, sum_cut below (r + 1) (length s) (omega arith))
 
   -- where it lies above v, so do all from it on: n − r levels
-  many-above : (v : ℕ) → v < get_or s r 0 → length s - 1 - r < count_above v s
+  many_above : (v : ℕ) → v < get_or s r 0 → length s - 1 - r < count_above v s
   unfolding count_above
-  many-above v h =
+  many_above v h =
       let above : ℕ → ℕ = λ i. one_below v (get_or s i 0) in
       let all = sum_equal 1 (length s - r) (λ i. above (r + i)) (λ i g. one_where_below v (get_or s (r + i) 0) (omega (arith, from_on i g))) in
       omega (arith, all, sum_cut above r (length s) (omega arith))
 
   -- below it lie at most the r before it
-  few-under : count_below (get_or s r 0) s ≤ r
+  few_under : count_below (get_or s r 0) s ≤ r
   unfolding count_below
-  few-under =
+  few_under =
       let w = get_or s r 0 in
       let below : ℕ → ℕ = λ i. one_below (get_or s i 0) w in
       let none = sum_equal 0 (length s - r) (λ i. below (r + i)) (λ i g. none_where_below (get_or s (r + i) 0) w (from_on i g)) in
       omega (arith, none, sum_most 1 r below (λ i. one_most (get_or s i 0) w), sum_cut below r (length s) (omega arith))
 
   -- above it at most the n − 1 − r after it
-  few-over : count_above (get_or s r 0) s ≤ length s - 1 - r
+  few_over : count_above (get_or s r 0) s ≤ length s - 1 - r
   unfolding count_above
-  few-over =
+  few_over =
       let w = get_or s r 0 in
       let above : ℕ → ℕ = λ i. one_below w (get_or s i 0) in
       let none = sum_equal 0 (r + 1) above (λ i g. none_where_below w (get_or s i 0) (up_to i g)) in
@@ -103,8 +103,8 @@ module _ (l : List ℕ) (r : ℕ) (inside : r < length l) where
   ranked = get_or (sorted l) r 0
 
   -- sorted, there are as many levels
-  in-sorted : r < length (sorted l)
-  in-sorted = omega (arith, length_sorted l)
+  in_sorted : r < length (sorted l)
+  in_sorted = omega (arith, length_sorted l)
 
   -- What has at most r levels below it and at most n − 1 − r above it is the sorted list's level at rank r. Several equal levels may
   -- have that: it does not matter which of them is found.
@@ -115,18 +115,18 @@ module _ (l : List ℕ) (r : ℕ) (inside : r < length l) where
   ]
     where
       too-many-below : ranked < v → ⊥
-      too-many-below h = omega (arith, few.few_below, sorted_below v l, many_below (sorted l) (ascending l) r in-sorted v h)
+      too-many-below h = omega (arith, few.few_below, sorted_below v l, many_below (sorted l) (ascending l) r in_sorted v h)
 
       too-many-above : v < ranked → ⊥
       too-many-above h =
-          omega (arith, few.few_above, sorted_above v l, length_sorted l, many-above (sorted l) (ascending l) r in-sorted v h)
+          omega (arith, few.few_above, sorted_above v l, length_sorted l, many_above (sorted l) (ascending l) r in_sorted v h)
 
   -- that level has no more below it, and no more above it
-  pub rank-has : OfRank l r ranked
-  rank-has =
+  pub rank_has : OfRank l r ranked
+  rank_has =
       record {
-        few_below = omega (arith, sorted_below ranked l, few-under (sorted l) (ascending l) r in-sorted);
-        few_above = omega (arith, sorted_above ranked l, length_sorted l, few-over (sorted l) (ascending l) r in-sorted);
+        few_below = omega (arith, sorted_below ranked l, few_under (sorted l) (ascending l) r in_sorted);
+        few_above = omega (arith, sorted_above ranked l, length_sorted l, few_over (sorted l) (ascending l) r in_sorted);
       }
 
   -- and it is one of the levels: were each another, each would lie below it or above it, and that many do not
@@ -136,7 +136,7 @@ module _ (l : List ℕ) (r : ℕ) (inside : r < length l) where
       let below : ℕ → ℕ = λ i. one_below (get_or l i 0) ranked in
       let above : ℕ → ℕ = λ i. one_below ranked (get_or l i 0) in
       let all = sum_equal 1 (length l) (λ i. below i + above i) (λ i h. one_side (get_or l i 0) ranked (other i h)) in
-      omega (arith, rank-has.few_below, rank-has.few_above, all, sum_add (length l) below above)
+      omega (arith, rank_has.few_below, rank_has.few_above, all, sum_add (length l) below above)
 
 -- ---- the sentence: nine levels, and v with at most four below it and at most four above it
 pub middle_of_nine : (l : List ℕ) (v : ℕ) → length l ≡ 9 → count_below v l ≤ 4 → count_above v l ≤ 4 → twice_median l ≡ 2 * v

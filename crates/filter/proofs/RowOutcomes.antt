@@ -72,6 +72,6 @@ module _ (above here below output : List ℕ) where
       (ap (λ (l : List ℕ). row_outcome 0 (l ++ drop (length here) output)) is)))
 
   -- what a caller knows whose slices fit
-  pub when-row-fits : (r : RowOutcome) → RowFits above here below output → RowIs above here below output r
+  pub when_row_fits : (r : RowOutcome) → RowFits above here below output → RowIs above here below output r
       → r ≡ row_outcome 0 (row_of above here below ++ drop (length here) output)
-  when-row-fits r f d = past f.small (past f.long_output (past f.beside d))
+  when_row_fits r f d = past f.small (past f.long_output (past f.beside d))

@@ -12,21 +12,21 @@ use Rattle.answers.specs.Refusals.{Unless}
 use Rattle.arithmetic.proofs.Sums.{sum_none}
 use Rattle.filter.specs.Median.{sorted, twice_median}
 use Rattle.filter.specs.Counting.{one_below, count_below, count_above, OfRank, SidesAre}
-use Rattle.filter.proofs.Each.{each, each_more, each-few}
-use Rattle.filter.proofs.Ranks.{none_where_below, one_most, rank_is, rank-has, some_level}
+use Rattle.filter.proofs.Each.{each, each_more, each_few}
+use Rattle.filter.proofs.Ranks.{none_where_below, one_most, rank_is, rank_has, some_level}
 
 -- ---- both counts of v, among the first k of t
 module _ (t : List ℕ) (v : ℕ) where
   -- of none
-  pub sides-none : SidesAre v (take 0 t) 0 0
+  pub sides_none : SidesAre v (take 0 t) 0 0
   unfolding count_below count_above
-  sides-none = record { below_is = sym (sum_none _); above_is = sym (sum_none _) }
+  sides_none = record { below_is = sym (sum_none _); above_is = sym (sum_none _) }
 
   -- of one level more
-  pub sides-more : (k below above : ℕ) → k < length t → SidesAre v (take k t) below above
+  pub sides_more : (k below above : ℕ) → k < length t → SidesAre v (take k t) below above
       → SidesAre v (take (k + 1) t) (below + one_below (get_or t k 0) v) (above + one_below v (get_or t k 0))
   unfolding count_below count_above each
-  sides-more k below above inside so_far =
+  sides_more k below above inside so_far =
       record {
         below_is = omega (arith, so_far.below_is, each_more (λ x. one_below x v) t k inside);
         above_is = omega (arith, so_far.above_is, each_more (λ x. one_below v x) t k inside);
@@ -36,18 +36,18 @@ module _ (t : List ℕ) (v : ℕ) where
   pub sides_itself : (k below above : ℕ) → k < length t → v ≡ get_or t k 0 → SidesAre v (take k t) below above
       → SidesAre v (take (k + 1) t) below above
   sides_itself k below above inside is so_far =
-      let more = sides-more k below above inside so_far in
+      let more = sides_more k below above inside so_far in
       record {
         below_is = omega (arith, more.below_is, none_where_below (get_or t k 0) v (omega arith));
         above_is = omega (arith, more.above_is, none_where_below v (get_or t k 0) (omega arith));
       }
 
   -- neither is more than the number of levels that were looked at
-  pub sides-few : (k below above : ℕ) → k ≤ length t → SidesAre v (take k t) below above → (below ≤ k) × (above ≤ k)
+  pub sides_few : (k below above : ℕ) → k ≤ length t → SidesAre v (take k t) below above → (below ≤ k) × (above ≤ k)
   unfolding count_below count_above each
-  sides-few k below above inside so_far = (
-    omega (arith, so_far.below_is, each-few (λ x. one_below x v) t (λ x. one_most x v) k inside),
-    omega (arith, so_far.above_is, each-few (λ x. one_below v x) t (λ x. one_most v x) k inside),
+  sides_few k below above inside so_far = (
+    omega (arith, so_far.below_is, each_few (λ x. one_below x v) t (λ x. one_most x v) k inside),
+    omega (arith, so_far.above_is, each_few (λ x. one_below v x) t (λ x. one_most v x) k inside),
   )
 
 -- ---- the search, among the levels l, for the one of rank r
@@ -60,8 +60,8 @@ module _ (l : List ℕ) (r : ℕ) (inside : r < length l) where
   Other i = get_or l i 0 ≡ get_or (sorted l) r 0 → ⊥
 
   -- it begins with the first level
-  pub sought-first : (v : ℕ) → v ≡ get_or l 0 0 → Sought l r 1 v
-  sought-first v is = elim (ℕ_discrete v (get_or (sorted l) r 0)) [
+  pub sought_first : (v : ℕ) → v ≡ get_or l 0 0 → Sought l r 1 v
+  sought_first v is = elim (ℕ_discrete v (get_or (sorted l) r 0)) [
     | yes e ↦ record { state = inl e }
     | no other ↦ record { state = inr (λ i h. let e : i ≡ 0 = omega arith in rw e (λ here. other (is ∙ here))) }
   ]
@@ -81,7 +81,7 @@ module _ (l : List ℕ) (r : ℕ) (inside : r < length l) where
 
       then-taken : v ≡ get_or (sorted l) r 0 → (below ≤ low) × (above ≤ high)
       then-taken e =
-          let has : OfRank l r v = rw e (rank-has l r inside) in
+          let has : OfRank l r v = rw e (rank_has l r inside) in
           (omega (arith, counts.below_is, has.few_below), omega (arith, counts.above_is, has.few_above))
 
       pub sought-more : (before now : ℕ) → Unless ((below ≤ low) × (above ≤ high)) (now ≡ before) (now ≡ v) → Sought l r k before
@@ -96,8 +96,8 @@ module _ (l : List ℕ) (r : ℕ) (inside : r < length l) where
           }
 
   -- all are looked at, and one of them is it
-  pub sought-last : (k v : ℕ) → length l ≤ k → Sought l r k v → v ≡ get_or (sorted l) r 0
-  sought-last k v all so_far = ⊎_elim (λ e. e) (λ none. absurd (some_level l r inside (λ i h. none i (omega arith)))) so_far.state
+  pub sought_last : (k v : ℕ) → length l ≤ k → Sought l r k v → v ≡ get_or (sorted l) r 0
+  sought_last k v all so_far = ⊎_elim (λ e. e) (λ none. absurd (some_level l r inside (λ i h. none i (omega arith)))) so_far.state
 
 -- ---- the search, among the first n of t, for both middle levels
 pub record Middles (t : List ℕ) (n k lower upper : ℕ) : Type 0 where
@@ -108,45 +108,45 @@ module _ (t : List ℕ) (n : ℕ) (some : 1 ≤ n) (long : n ≤ length t) where
   many : length (take n t) ≡ n
   many = length-take-le n t long
 
-  low-inside : (n - 1) / 2 < length (take n t)
-  low-inside = omega (arith, many)
+  low_inside : (n - 1) / 2 < length (take n t)
+  low_inside = omega (arith, many)
 
-  high-inside : n / 2 < length (take n t)
-  high-inside = omega (arith, many)
+  high_inside : n / 2 < length (take n t)
+  high_inside = omega (arith, many)
 
   in_take : (k : ℕ) → k < n → get_or t k 0 ≡ get_or (take n t) k 0
   in_take k h = sym (get_or-take n t k 0 h)
 
-  pub middles-first : Middles t n 1 (get_or t 0 0) (get_or t 0 0)
-  middles-first =
+  pub middles_first : Middles t n 1 (get_or t 0 0) (get_or t 0 0)
+  middles_first =
       let first = in_take 0 (omega arith) in
       record {
-        lower_sought = sought-first (take n t) ((n - 1) / 2) low-inside (get_or t 0 0) first;
-        upper_sought = sought-first (take n t) (n / 2) high-inside (get_or t 0 0) first;
+        lower_sought = sought_first (take n t) ((n - 1) / 2) low_inside (get_or t 0 0) first;
+        upper_sought = sought_first (take n t) (n / 2) high_inside (get_or t 0 0) first;
       }
 
   -- of n levels n − 1 − (n − 1)/2 is n/2, so that the two ranks are also how many may lie above
-  pub middles-more : (k v below above low high lower upper lower' upper' : ℕ) → k < n → v ≡ get_or t k 0 → SidesAre v (take n t) below above
+  pub middles_more : (k v below above low high lower upper lower' upper' : ℕ) → k < n → v ≡ get_or t k 0 → SidesAre v (take n t) below above
       → low ≡ (n - 1) / 2 → high ≡ n / 2
       → Unless ((below ≤ low) × (above ≤ high)) (lower' ≡ lower) (lower' ≡ v)
       → Unless ((below ≤ high) × (above ≤ low)) (upper' ≡ upper) (upper' ≡ v)
       → Middles t n k lower upper → Middles t n (k + 1) lower' upper'
-  middles-more k v below above low high lower upper lower' upper' here is counts low-is high_is takes-lower takes-upper so_far =
+  middles_more k v below above low high lower upper lower' upper' here is counts low-is high_is takes-lower takes-upper so_far =
       let l = take n t in
       let v-is = is ∙ in_take k here in
       let above_lower : high ≡ length l - 1 - (n - 1) / 2 = omega (arith, many) in
       let above-upper : low ≡ length l - 1 - n / 2 = omega (arith, many) in
-      let for-lower = sought-more l ((n - 1) / 2) low-inside k v below above low high v-is counts low-is above_lower in
-      let for-upper = sought-more l (n / 2) high-inside k v below above high low v-is counts high_is above-upper in
+      let for-lower = sought-more l ((n - 1) / 2) low_inside k v below above low high v-is counts low-is above_lower in
+      let for-upper = sought-more l (n / 2) high_inside k v below above high low v-is counts high_is above-upper in
       record {
         lower_sought = for-lower lower lower' takes-lower so_far.lower_sought;
         upper_sought = for-upper upper upper' takes-upper so_far.upper_sought;
       }
 
-  pub middles-last : (k lower upper : ℕ) → n ≤ k → Middles t n k lower upper → lower + upper ≡ twice_median (take n t)
+  pub middles_last : (k lower upper : ℕ) → n ≤ k → Middles t n k lower upper → lower + upper ≡ twice_median (take n t)
   unfolding twice_median
-  middles-last k lower upper all so_far =
+  middles_last k lower upper all so_far =
       let looked-at : length (take n t) ≤ k = omega (arith, many) in
-      let lower-is = sought-last (take n t) ((n - 1) / 2) low-inside k lower looked-at so_far.lower_sought in
-      let upper_is = sought-last (take n t) (n / 2) high-inside k upper looked-at so_far.upper_sought in
+      let lower-is = sought_last (take n t) ((n - 1) / 2) low_inside k lower looked-at so_far.lower_sought in
+      let upper_is = sought_last (take n t) (n / 2) high_inside k upper looked-at so_far.upper_sought in
       rw (many, lower-is, upper_is)

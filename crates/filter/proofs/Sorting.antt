@@ -37,16 +37,16 @@ insert_around a b x l g h e = rw (insert_large b x l h, insert_small a x l g, in
 
 -- if two go into l in either order, then into x and l too
 module _ (x : ℕ) (l : List ℕ) (e : (c d : ℕ) → insert c (insert d l) ≡ insert d (insert c l)) where
-  commutes-more : (a b : ℕ) → (a ≤ x) ⊎ (x ≤ a) → (b ≤ x) ⊎ (x ≤ b) → insert a (insert b (x ∷ l)) ≡ insert b (insert a (x ∷ l))
-  commutes-more a b (inl g) (inl h) = rw (insert_small b x l h, insert_small a x l g) (insert_either a b (insert x l))
-  commutes-more a b (inl g) (inr h) = insert_around a b x l g h (e x b)
-  commutes-more a b (inr g) (inl h) = sym (insert_around b a x l h g (e x a))
-  commutes-more a b (inr g) (inr h) = rw (insert_large b x l h, insert_large a x l g, insert_large a x (insert b l) g, insert_large b x (insert a l) h, e a b)
+  commutes_more : (a b : ℕ) → (a ≤ x) ⊎ (x ≤ a) → (b ≤ x) ⊎ (x ≤ b) → insert a (insert b (x ∷ l)) ≡ insert b (insert a (x ∷ l))
+  commutes_more a b (inl g) (inl h) = rw (insert_small b x l h, insert_small a x l g) (insert_either a b (insert x l))
+  commutes_more a b (inl g) (inr h) = insert_around a b x l g h (e x b)
+  commutes_more a b (inr g) (inl h) = sym (insert_around b a x l h g (e x a))
+  commutes_more a b (inr g) (inr h) = rw (insert_large b x l h, insert_large a x l g, insert_large a x (insert b l) g, insert_large b x (insert a l) h, e a b)
 
 insert_commutes : (a b : ℕ) (l : List ℕ) → insert a (insert b l) ≡ insert b (insert a l)
 unfolding insert
 insert_commutes a b [] = insert_either a b []
-insert_commutes a b (x ∷ l) = commutes-more x l (λ c d. insert_commutes c d l) a b (order a x) (order b x)
+insert_commutes a b (x ∷ l) = commutes_more x l (λ c d. insert_commutes c d l) a b (order a x) (order b x)
 
 -- sorting x and l is putting x into the sorted l
 sorted_cons : (x : ℕ) (l : List ℕ) → sorted (x ∷ l) ≡ insert x (sorted l)

@@ -10,7 +10,7 @@ use Rattle.scan.proofs.Outcomes.{one_rows, one_end}
 use Rattle.judge.specs.declared.Verdict.{Verdict}
 use Rattle.judge.specs.Judge.{verdict, JudgeIs}
 use Rattle.judge.specs.Measure.{Measurement, measurement, MeasureIs}
-use Rattle.judge.proofs.Outcomes.{one-judge, one-measure}
+use Rattle.judge.proofs.Outcomes.{one_judge, one_measure}
 use Rattle.threshold.specs.declared.Threshold.{Threshold}
 use Rattle.threshold.specs.TwoMeans.{answered, TwoMeansIs}
 use Rattle.threshold.proofs.Outcomes.{one_two_means}
@@ -23,23 +23,23 @@ use Rattle.length.proofs.Outcomes.{one_length}
 
 -- any two outcomes that `gong_judge` is permitted, the number that it returns and the ratio that it writes, are equal
 module _ (N M m D n q n' q' : ℕ) (this : JudgeIs N (eighths M) (eighths m) D (verdict n q)) (that : JudgeIs N (eighths M) (eighths m) D (verdict n' q')) where
-  same-verdict : verdict n q ≡ verdict n' q'
-  same-verdict = one-judge N (eighths M) (eighths m) D (verdict n q) (verdict n' q') this that
+  same_verdict : verdict n q ≡ verdict n' q'
+  same_verdict = one_judge N (eighths M) (eighths m) D (verdict n q) (verdict n' q') this that
 
-  pub one-gong-judge : (n ≡ n') × (q ≡ q')
-  one-gong-judge = (ap (λ (v : Verdict). v.number) same-verdict, ap (λ (v : Verdict). v.ratio) same-verdict)
+  pub one_gong_judge : (n ≡ n') × (q ≡ q')
+  one_gong_judge = (ap (λ (v : Verdict). v.number) same_verdict, ap (λ (v : Verdict). v.ratio) same_verdict)
 
 -- any two outcomes that `gong_measure` is permitted, the number that it returns, the ratio that it writes and both buffers, are equal
 module _ (levels : List ℕ) (w h : ℕ) (output work : List ℕ) (n q n' q' : ℕ) (o k o' k' : List ℕ) (this : MeasureIs levels w h output work (measurement (verdict n q) o k)) (that : MeasureIs levels w h output work (measurement (verdict n' q') o' k')) where
-  same-measurement : measurement (verdict n q) o k ≡ measurement (verdict n' q') o' k'
-  same-measurement = one-measure levels w h output work (measurement (verdict n q) o k) (measurement (verdict n' q') o' k') this that
+  same_measurement : measurement (verdict n q) o k ≡ measurement (verdict n' q') o' k'
+  same_measurement = one_measure levels w h output work (measurement (verdict n q) o k) (measurement (verdict n' q') o' k') this that
 
-  pub one-gong-measure : (n ≡ n') × (q ≡ q') × (o ≡ o') × (k ≡ k')
-  one-gong-measure = (
-    ap (λ (m : Measurement). m.verdict.number) same-measurement,
-    ap (λ (m : Measurement). m.verdict.ratio) same-measurement,
-    ap (λ (m : Measurement). m.output) same-measurement,
-    ap (λ (m : Measurement). m.work) same-measurement,
+  pub one_gong_measure : (n ≡ n') × (q ≡ q') × (o ≡ o') × (k ≡ k')
+  one_gong_measure = (
+    ap (λ (m : Measurement). m.verdict.number) same_measurement,
+    ap (λ (m : Measurement). m.verdict.ratio) same_measurement,
+    ap (λ (m : Measurement). m.output) same_measurement,
+    ap (λ (m : Measurement). m.work) same_measurement,
   )
 
 -- any two outcomes that `gong_scan_rows` is permitted, the number that it returns, the rows that it writes, the memory and the output, are equal;
@@ -49,39 +49,39 @@ parts : {n q n' q' : ℕ} {held output held' output' : List ℕ} → scanned n q
 parts e = (ap (λ (r : Scanned). r.number) e, ap (λ (r : Scanned). r.rows) e, ap (λ (r : Scanned). r.held) e, ap (λ (r : Scanned). r.output) e)
 
 module _ (n q n' q' : ℕ) (left out left' out' : List ℕ) where
-  pub one-gong-scan-rows : (held levels output : List ℕ) → RowsIs held levels output (scanned n q left out) → RowsIs held levels output (scanned n' q' left' out')
+  pub one_gong_scan_rows : (held levels output : List ℕ) → RowsIs held levels output (scanned n q left out) → RowsIs held levels output (scanned n' q' left' out')
       → (n ≡ n') × (q ≡ q') × (left ≡ left') × (out ≡ out')
-  one-gong-scan-rows held levels output this that = parts (one_rows held levels output (scanned n q left out) (scanned n' q' left' out') this that)
+  one_gong_scan_rows held levels output this that = parts (one_rows held levels output (scanned n q left out) (scanned n' q' left' out') this that)
 
-  pub one-gong-scan-end : (held output : List ℕ) → EndIs held output (scanned n q left out) → EndIs held output (scanned n' q' left' out')
+  pub one_gong_scan_end : (held output : List ℕ) → EndIs held output (scanned n q left out) → EndIs held output (scanned n' q' left' out')
       → (n ≡ n') × (q ≡ q') × (left ≡ left') × (out ≡ out')
-  one-gong-scan-end held output this that = parts (one_end held output (scanned n q left out) (scanned n' q' left' out') this that)
+  one_gong_scan_end held output this that = parts (one_end held output (scanned n q left out) (scanned n' q' left' out') this that)
 
 -- any two outcomes that `gong_two_means` is permitted, the number that it returns and the three that it writes, are equal
 module _ (h : List ℕ) (n k a b n' k' a' b' : ℕ) (this : TwoMeansIs h (answered n k (fraction a b))) (that : TwoMeansIs h (answered n' k' (fraction a' b'))) where
-  same-threshold : answered n k (fraction a b) ≡ answered n' k' (fraction a' b')
-  same-threshold = one_two_means h (answered n k (fraction a b)) (answered n' k' (fraction a' b')) this that
+  same_threshold : answered n k (fraction a b) ≡ answered n' k' (fraction a' b')
+  same_threshold = one_two_means h (answered n k (fraction a b)) (answered n' k' (fraction a' b')) this that
 
-  pub one-gong-two-means : (n ≡ n') × (k ≡ k') × (a ≡ a') × (b ≡ b')
-  one-gong-two-means = (
-    ap (λ (t : Threshold). t.number) same-threshold,
-    ap (λ (t : Threshold). t.rounds) same-threshold,
-    ap (λ (t : Threshold). t.value.numerator) same-threshold,
-    ap (λ (t : Threshold). t.value.denominator) same-threshold,
+  pub one_gong_two_means : (n ≡ n') × (k ≡ k') × (a ≡ a') × (b ≡ b')
+  one_gong_two_means = (
+    ap (λ (t : Threshold). t.number) same_threshold,
+    ap (λ (t : Threshold). t.rounds) same_threshold,
+    ap (λ (t : Threshold). t.value.numerator) same_threshold,
+    ap (λ (t : Threshold). t.value.denominator) same_threshold,
   )
 
 -- any two outcomes that `gong_sample` is permitted, the number that it returns and the value that it writes, are equal
 module _ (levels : List ℕ) (w h : ℕ) (x y : ℤ) (n n' : ℕ) (v v' : ℤ) (this : SampleIs levels w h (sixteenths x) (sixteenths y) (sampled n v)) (that : SampleIs levels w h (sixteenths x) (sixteenths y) (sampled n' v')) where
-  same-sample : sampled n v ≡ sampled n' v'
-  same-sample = one_sample levels w h (sixteenths x) (sixteenths y) (sampled n v) (sampled n' v') this that
+  same_sample : sampled n v ≡ sampled n' v'
+  same_sample = one_sample levels w h (sixteenths x) (sixteenths y) (sampled n v) (sampled n' v') this that
 
-  pub one-gong-sample : (n ≡ n') × (v ≡ v')
-  one-gong-sample = (ap (λ (r : Sampled). r.number) same-sample, ap (λ (r : Sampled). r.value) same-sample)
+  pub one_gong_sample : (n ≡ n') × (v ≡ v')
+  one_gong_sample = (ap (λ (r : Sampled). r.number) same_sample, ap (λ (r : Sampled). r.value) same_sample)
 
 -- any two outcomes that `gong_length` is permitted, the number that it returns and the length that it writes, are equal
 module _ (factor : ℤ) (pixel : ℕ) (n q n' q' : ℕ) (this : LengthIs (sixteenths factor) (picometres pixel) (sharpness n q)) (that : LengthIs (sixteenths factor) (picometres pixel) (sharpness n' q')) where
   same : sharpness n q ≡ sharpness n' q'
   same = one_length (sixteenths factor) (picometres pixel) (sharpness n q) (sharpness n' q') this that
 
-  pub one-gong-length : (n ≡ n') × (q ≡ q')
-  one-gong-length = (ap (λ (r : Sharpness). r.number) same, ap (λ (r : Sharpness). r.length.0) same)
+  pub one_gong_length : (n ≡ n') × (q ≡ q')
+  one_gong_length = (ap (λ (r : Sharpness). r.number) same, ap (λ (r : Sharpness). r.length.0) same)

@@ -6,7 +6,7 @@ use native.Mathlib.Omega.{arith}
 use Rattle.records.specs.declared.Record.{Record}
 use Rattle.records.specs.declared.Record.TheVariants.{Picture as Record-as-Picture, Pixel as Record-as-Pixel}
 use Rattle.records.specs.Records.{RecordIs, Follows}
-use Rattle.records.proofs.Outcomes.{moves-on}
+use Rattle.records.proofs.Outcomes.{moves_on}
 use Rattle.records.proofs.Reading.{Before, one_more}
 use Rattle.gongspindle.specs.declared.look.Said.{Said}
 use Rattle.gongspindle.specs.declared.look.Said.TheVariants.{Picture, Pixel}
@@ -25,8 +25,8 @@ module _ (input : List ℕ) (at : ℕ) where
     pub later : at < next
     pub few : next ≤ 32768
 
-  pub past-good : {good : ℕ} (said : Said) (next : ℕ) → Before input good at → FoundIs input at (Good said next) → Onward good next
-  past-good said next before is =
+  pub past_good : {good : ℕ} (said : Said) (next : ℕ) → Before input good at → FoundIs input at (Good said next) → Onward good next
+  past_good said next before is =
       let of = said_of said next is in
-      let on = moves-on input at of.0 next of.1.0 of.1.1 in
+      let on = moves_on input at of.0 next of.1.0 of.1.1 in
       record { one_more = one_more of.0 next before of.1.0 of.1.1; later = on.0; few = omega arith }

@@ -8,7 +8,7 @@ use Rattle.records.specs.declared.Record.TheVariants.{Picture as Record-as-Pictu
 use Rattle.records.specs.declared.Record.TheVariants.{End as Record-as-End, Bad as Record-as-Bad}
 use Rattle.records.specs.Records.{RecordIs, Last}
 use Rattle.records.proofs.Outcomes.{one_record_at}
-use Rattle.records.proofs.Reading.{not_both, one-reading}
+use Rattle.records.proofs.Reading.{not_both, one_reading}
 use Rattle.gongspindle.specs.declared.levels.Line.{Line}
 use Rattle.gongspindle.specs.declared.look.Said.{Said}
 use Rattle.gongspindle.specs.declared.look.Said.TheVariants.{Picture, Pixel}
@@ -55,42 +55,42 @@ module _ (input : List ℕ) (at : ℕ) where
   LineOf line Record-as-End = ⊥
   LineOf line (Record-as-Bad number offset) = ⊥
 
-  one-said : (a b : Said) (n m : ℕ) → SaidIs input at a n → SaidIs input at b m → Good a n ≡ Good b m
-  one-said (Picture side line) (Picture side' line') n m p q =
+  one_said : (a b : Said) (n m : ℕ) → SaidIs input at a n → SaidIs input at b m → Good a n ≡ Good b m
+  one_said (Picture side line) (Picture side' line') n m p q =
       let e = one_record_at input at (Record-as-Picture side p.0 n) (Record-as-Picture side' q.0 m) p.1.0 q.1.0 in
       let same_line = one_line_of (part input q.0 m) side' line line' (subst (LineOf line) e p.1.1) q.1.1 in
       cc
-  one-said (Picture side line) (Pixel size) n m p q =
+  one_said (Picture side line) (Pixel size) n m p q =
       let e = one_record_at input at (Record-as-Picture side p.0 n) (Record-as-Pixel size m) p.1.0 q in
       cc
-  one-said (Pixel size) (Picture side line) n m p q =
+  one_said (Pixel size) (Picture side line) n m p q =
       let e = one_record_at input at (Record-as-Picture side q.0 m) (Record-as-Pixel size n) q.1.0 p in
       cc
-  one-said (Pixel size) (Pixel size') n m p q =
+  one_said (Pixel size) (Pixel size') n m p q =
       let e = one_record_at input at (Record-as-Pixel size n) (Record-as-Pixel size' m) p q in
       cc
 
   -- any two findings that the promise permits at an offset are one
-  pub one-look : (a b : Found) → FoundIs input at a → FoundIs input at b → a ≡ b
-  one-look (Good said next) (Good said' next') p q = one-said said said' next next' p q
-  one-look (Good said next) End p q = not_good said next Record-as-End p q tt
-  one-look (Good said next) (Bad n o) p q = not_good said next (Record-as-Bad n o) p q tt
-  one-look End (Good said next) p q = not_good said next Record-as-End q p tt
-  one-look End End p q = refl
-  one-look End (Bad n o) p q = let e = one_record_at input at Record-as-End (Record-as-Bad n o) p q in cc
-  one-look (Bad n o) (Good said next) p q = not_good said next (Record-as-Bad n o) q p tt
-  one-look (Bad n o) End p q = let e = one_record_at input at Record-as-End (Record-as-Bad n o) q p in cc
-  one-look (Bad n o) (Bad n' o') p q = let e = one_record_at input at (Record-as-Bad n o) (Record-as-Bad n' o') p q in cc
+  pub one_look : (a b : Found) → FoundIs input at a → FoundIs input at b → a ≡ b
+  one_look (Good said next) (Good said' next') p q = one_said said said' next next' p q
+  one_look (Good said next) End p q = not_good said next Record-as-End p q tt
+  one_look (Good said next) (Bad n o) p q = not_good said next (Record-as-Bad n o) p q tt
+  one_look End (Good said next) p q = not_good said next Record-as-End q p tt
+  one_look End End p q = refl
+  one_look End (Bad n o) p q = let e = one_record_at input at Record-as-End (Record-as-Bad n o) p q in cc
+  one_look (Bad n o) (Good said next) p q = not_good said next (Record-as-Bad n o) q p tt
+  one_look (Bad n o) End p q = let e = one_record_at input at Record-as-End (Record-as-Bad n o) q p in cc
+  one_look (Bad n o) (Bad n' o') p q = let e = one_record_at input at (Record-as-Bad n o) (Record-as-Bad n' o') p q in cc
 
 -- any two outcomes of one input are one, where all lines were written
 pub one_report : (input : List ℕ) (a b : Outcome) → ¬ (a ≡ Unwritten) → ¬ (b ≡ Unwritten) → OutcomeIs input a → OutcomeIs input b → a ≡ b
 one_report input Unwritten b wrote wrote' p q = absurd (wrote refl)
 one_report input (Whole good) Unwritten wrote wrote' p q = absurd (wrote' refl)
 one_report input (Faulty n o) Unwritten wrote wrote' p q = absurd (wrote' refl)
-one_report input (Whole good) (Whole good') wrote wrote' p q = ap Whole (one-reading input good good' 0 Record-as-End Record-as-End p q).0
+one_report input (Whole good) (Whole good') wrote wrote' p q = ap Whole (one_reading input good good' 0 Record-as-End Record-as-End p q).0
 one_report input (Whole good) (Faulty n o) wrote wrote' p q =
-    let e = (one-reading input good q.0 0 Record-as-End (Record-as-Bad n o) p q.1).1 in cc
+    let e = (one_reading input good q.0 0 Record-as-End (Record-as-Bad n o) p q.1).1 in cc
 one_report input (Faulty n o) (Whole good) wrote wrote' p q =
-    let e = (one-reading input good p.0 0 Record-as-End (Record-as-Bad n o) q p.1).1 in cc
+    let e = (one_reading input good p.0 0 Record-as-End (Record-as-Bad n o) q p.1).1 in cc
 one_report input (Faulty n o) (Faulty n' o') wrote wrote' p q =
-    let e = (one-reading input p.0 q.0 0 (Record-as-Bad n o) (Record-as-Bad n' o') p.1 q.1).1 in cc
+    let e = (one_reading input p.0 q.0 0 (Record-as-Bad n o) (Record-as-Bad n' o') p.1 q.1).1 in cc

@@ -60,12 +60,12 @@ split t p = omega (arith, ap (λ (n : ℕ). n * p) (mod-add-div' t 65536))
 
 module _ (a : List ℕ) (k c : ℕ) (out : List ℕ) where
   -- before the first digit the carry is c
-  pub multiplied-none : length out ≡ 10 → c ≤ k → Multiplied a k c out c 0
-  multiplied-none long small = record { long = long; small = small; same = rw (value_none out, value_none a) (omega arith) }
+  pub multiplied_none : length out ≡ 10 → c ≤ k → Multiplied a k c out c 0
+  multiplied_none long small = record { long = long; small = small; same = rw (value_none out, value_none a) (omega arith) }
 
   -- one digit more, x
-  pub multiplied-more : (carry i x : ℕ) → i < 10 → x < 65536 → x ≡ get_or a i 0 → Multiplied a k c out carry i → let t = x * k + carry in Multiplied a k c (set out i (t % 65536)) (t / 65536) (i + 1)
-  multiplied-more carry i x turn digit is so_far =
+  pub multiplied_more : (carry i x : ℕ) → i < 10 → x < 65536 → x ≡ get_or a i 0 → Multiplied a k c out carry i → let t = x * k + carry in Multiplied a k c (set out i (t % 65536)) (t / 65536) (i + 1)
+  multiplied_more carry i x turn digit is so_far =
       let t : ℕ = x * k + carry in
       record {
         long = length-set out i (t % 65536) ∙ so_far.long;
@@ -76,9 +76,9 @@ module _ (a : List ℕ) (k c : ℕ) (out : List ℕ) where
       }
 
   -- nothing is carried past the last digit, where the product has room
-  pub multiplied-all : (carry n : ℕ) → value a n * k + c < 65536 ^ n → Multiplied a k c out carry n → value out n ≡ value a n * k + c
-  multiplied-all zero n room all = omega (arith, all.same)
-  multiplied-all (suc carry) n room all = omega (arith, all.same, suc-mul carry (65536 ^ n))
+  pub multiplied_all : (carry n : ℕ) → value a n * k + c < 65536 ^ n → Multiplied a k c out carry n → value out n ≡ value a n * k + c
+  multiplied_all zero n room all = omega (arith, all.same)
+  multiplied_all (suc carry) n room all = omega (arith, all.same, suc-mul carry (65536 ^ n))
 
 -- ---- comparing
 -- the higher digit decides, whatever stands below it
@@ -121,8 +121,8 @@ module _ (a b : List ℕ) (less : Bool) (i x y : ℕ) (so_far : Compared a b les
       e ∙ so_far.is ∙ rw same (leb_add (value a i) (value b i) (y * 65536 ^ i))
 
   -- which are those of one digit more
-  pub compared-more : (x < 65536) × (y < 65536) → (x ≡ get_or a i 0) × (y ≡ get_or b i 0) → (now : Bool) → Decided x y less now → Compared a b now (i + 1)
-  compared-more small is now d =
+  pub compared_more : (x < 65536) × (y < 65536) → (x ≡ get_or a i 0) × (y ≡ get_or b i 0) → (now : Bool) → Decided x y less now → Compared a b now (i + 1)
+  compared_more small is now d =
       record {
         room_a = room_more a i x small.0 is.0 so_far.room_a;
         room_b = room_more b i y small.1 is.1 so_far.room_b;

@@ -44,8 +44,8 @@ module _ (N : ℕ) (M m : Eighths) (D : ℕ) (r s : Fraction) where
   abbrev Plain : Type 0
   Plain = NotMore (times (plus r (fraction 138 100)) s) (span M m)
 
-  pub below-deviation : 1 ≤ N → NotMore (squared s) (deviation_squared N D) → RatioFrom N M m D r → Plain
-  below-deviation some below ratio = go (plus r (fraction 138 100)).numerator (plus r (fraction 138 100)).denominator ratio
+  pub below_deviation : 1 ≤ N → NotMore (squared s) (deviation_squared N D) → RatioFrom N M m D r → Plain
+  below_deviation some below ratio = go (plus r (fraction 138 100)).numerator (plus r (fraction 138 100)).denominator ratio
     where
       go : (a b : ℕ) → NotMore (times (squared (fraction a b)) (deviation_squared N D)) (squared (span M m)) → NotMore (times (fraction a b) s) (span M m)
       go a b ratio =
@@ -53,8 +53,8 @@ module _ (N : ℕ) (M m : Eighths) (D : ℕ) (r s : Fraction) where
           (omega (arith, mul-le-mul_left (a * a * 16384) below, mul-le-mul_right (s.denominator * s.denominator) ratio))
           (let whole : 0 < 64 * (N * N) = omega (arith, mul-le-mul some some) in whole))
 
-  pub above-deviation : 1 ≤ s.denominator → NotMore (deviation_squared N D) (squared s) → Plain → RatioFrom N M m D r
-  above-deviation some above plain = go (plus r (fraction 138 100)).numerator (plus r (fraction 138 100)).denominator plain
+  pub above_deviation : 1 ≤ s.denominator → NotMore (deviation_squared N D) (squared s) → Plain → RatioFrom N M m D r
+  above_deviation some above plain = go (plus r (fraction 138 100)).numerator (plus r (fraction 138 100)).denominator plain
     where
       go : (a b : ℕ) → NotMore (times (fraction a b) s) (span M m) → NotMore (times (squared (fraction a b)) (deviation_squared N D)) (squared (span M m))
       go a b plain =
@@ -101,33 +101,33 @@ module _ (N : ℕ) (M m : Eighths) (D : ℕ) (v : Verdict) (taken : InRange N M 
   fit b k d t (inr (inr (inl u))) = d u
   fit b k d t (inr (inr (inr u))) = u t
 
-  past-all-tests : BrightInRange M → DarkInRange m → ¬ (D ≡ 0) → Exactly (1000 ≤ v.ratio) (RatioTen N M m D) → Unless (1000 ≤ v.ratio) (v.number ≡ 9) (v.number ≡ 0) → Agrees
-  past-all-tests b k d ten (inl low) = inl (rw low.1 (lit≤ tt, lit≤ tt), inr (inr (inr (λ t. low.0 (ten.1 t)))))
-  past-all-tests b k d ten (inr high) = inr (high.1, fit b k d (ten.0 high.0))
+  past_all_tests : BrightInRange M → DarkInRange m → ¬ (D ≡ 0) → Exactly (1000 ≤ v.ratio) (RatioTen N M m D) → Unless (1000 ≤ v.ratio) (v.number ≡ 9) (v.number ≡ 0) → Agrees
+  past_all_tests b k d ten (inl low) = inl (rw low.1 (lit≤ tt, lit≤ tt), inr (inr (inr (λ t. low.0 (ten.1 t)))))
+  past_all_tests b k d ten (inr high) = inr (high.1, fit b k d (ten.0 high.0))
 
   agrees : JudgeIs N M m D v → Agrees
   agrees (inl fifteen) = absurd (fifteen.0 taken)
   agrees (inr (_, inl six)) = refusal 6 (lit≤ tt, lit≤ tt) six.1 (inl (λ w. six.0 ((bright_is M).1 w)))
   agrees (inr (_, inr (_, inl seven))) = refusal 7 (lit≤ tt, lit≤ tt) seven.1 (inr (inl (λ w. seven.0 ((dark_is m).1 w))))
   agrees (inr (_, inr (_, inr (_, inl eight)))) = refusal 8 (lit≤ tt, lit≤ tt) eight.1 (inr (inr (inl (nil D eight.0))))
-  agrees (inr (_, inr (b, inr (k, inr (d, r))))) = past-all-tests b k d (ten_is N M m D v.ratio r.ratio) r.number
+  agrees (inr (_, inr (b, inr (k, inr (d, r))))) = past_all_tests b k d (ten_is N M m D v.ratio r.ratio) r.number
 
   -- discarded exactly where a stated range is left, the noise is nil or the ratio is below 10; and else the number is 0
-  pub discarded-exactly : JudgeIs N M m D v → Exactly (Discarded v.number) (Unfit N M m D) × ((v.number ≡ 0) ⊎ Discarded v.number)
-  discarded-exactly j = elim (agrees j) [
+  pub discarded_exactly : JudgeIs N M m D v → Exactly (Discarded v.number) (Unfit N M m D) × ((v.number ≡ 0) ⊎ Discarded v.number)
+  discarded_exactly j = elim (agrees j) [
     | inl both ↦ ((λ _. both.1, λ _. both.0), inr both.0)
     | inr neither ↦ ((λ d. absurd (omega (arith, d, neither.0)), λ u. absurd (neither.1 u)), inl neither.0)
   ]
 
 -- the same of a picture and what it was filtered to, whose numbers the judge always takes
 module _ (levels filtered : List ℕ) (w h : ℕ) (v : Verdict) (j : Judged levels filtered w h v) where
-  pub judged-discarded-exactly :
+  pub judged_discarded_exactly :
       Exactly (Discarded v.number) (Unfit (inner_pixels w h) (bright w h filtered) (dark w h filtered) j.spread) × ((v.number ≡ 0) ⊎ Discarded v.number)
-  judged-discarded-exactly = discarded-exactly (inner_pixels w h) (bright w h filtered) (dark w h filtered) j.spread v j.in_range j.verdict_is
+  judged_discarded_exactly = discarded_exactly (inner_pixels w h) (bright w h filtered) (dark w h filtered) j.spread v j.in_range j.verdict_is
 
   -- its number is never 15
-  pub never-fifteen : ¬ (v.number ≡ 15)
-  never-fifteen e = elim judged-discarded-exactly.1 [ inl z ↦ omega (arith, z, e) | inr d ↦ omega (arith, d, e) ]
+  pub never_fifteen : ¬ (v.number ≡ 15)
+  never_fifteen e = elim judged_discarded_exactly.1 [ inl z ↦ omega (arith, z, e) | inr d ↦ omega (arith, d, e) ]
 
 -- and of a picture that is measured
 module _ (levels : List ℕ) (w h : ℕ) (output work : List ℕ) (r : Measurement) (d : Measured levels w h output work r) where
@@ -137,8 +137,8 @@ module _ (levels : List ℕ) (w h : ℕ) (output work : List ℕ) (r : Measureme
   abbrev filtered : List ℕ
   filtered = pass_three w h levels
 
-  pub measured-discarded-exactly : Exactly (Discarded number) (Unfit (inner_pixels w h) (bright w h filtered) (dark w h filtered) d.judged.spread) × ((number ≡ 0) ⊎ Discarded number)
-  measured-discarded-exactly = judged-discarded-exactly levels filtered w h r.verdict d.judged
+  pub measured_discarded_exactly : Exactly (Discarded number) (Unfit (inner_pixels w h) (bright w h filtered) (dark w h filtered) d.judged.spread) × ((number ≡ 0) ⊎ Discarded number)
+  measured_discarded_exactly = judged_discarded_exactly levels filtered w h r.verdict d.judged
 
-  pub measured-never-fifteen : ¬ (number ≡ 15)
-  measured-never-fifteen = never-fifteen levels filtered w h r.verdict d.judged
+  pub measured_never_fifteen : ¬ (number ≡ 15)
+  measured_never_fifteen = never_fifteen levels filtered w h r.verdict d.judged

@@ -45,9 +45,9 @@ one_of_two a x c l v (inr e) (zero, p, f) = (1, omega arith, sym e ∙ f)
 
 -- with anything that chooses one of two, it is one of them
 module _ (f : ℕ → ℕ → ℕ) (chooses : (a x : ℕ) → (f a x ≡ a) ⊎ (f a x ≡ x)) where
-  chosen-in : (a : ℕ) (l : List ℕ) → In (foldl f a l) (a ∷ l)
-  chosen-in a [] = (0, omega arith, refl)
-  chosen-in a (x ∷ l) = one_of_two a x (f a x) l (foldl f (f a x) l) (chooses a x) (chosen-in (f a x) l)
+  chosen_in : (a : ℕ) (l : List ℕ) → In (foldl f a l) (a ∷ l)
+  chosen_in a [] = (0, omega arith, refl)
+  chosen_in a (x ∷ l) = one_of_two a x (f a x) l (foldl f (f a x) l) (chooses a x) (chosen_in (f a x) l)
 
 max_chooses : (a x : ℕ) → (max a x ≡ a) ⊎ (max a x ≡ x)
 max_chooses a x = elim (dec_le a x) [ yes h ↦ inr (omega arith) | no h ↦ inl (omega arith) ]
@@ -67,7 +67,7 @@ maximum_over (x ∷ l) (suc k) = most_over x l k
 pub maximum_in : (l : List ℕ) → 1 ≤ length l → In (maximum l) l
 unfolding maximum
 maximum_in [] p = absurd (let z : ⊥ = omega arith in z)
-maximum_in (x ∷ l) p = chosen-in max max_chooses x l
+maximum_in (x ∷ l) p = chosen_in max max_chooses x l
 
 -- no element is less than the minimum
 pub minimum_under : (l : List ℕ) (k : ℕ) → k < length l → minimum l ≤ get_or l k 0
@@ -80,7 +80,7 @@ minimum_under (x ∷ l) (suc k) p = least_under x l k (omega arith)
 pub minimum_in : (l : List ℕ) → 1 ≤ length l → In (minimum l) l
 unfolding minimum
 minimum_in [] p = absurd (let z : ⊥ = omega arith in z)
-minimum_in (x ∷ l) p = chosen-in min min_chooses x l
+minimum_in (x ∷ l) p = chosen_in min min_chooses x l
 
 -- ---- the tile in row b and column a of the tiles
 module _ (w h : ℕ) (x : List ℕ) (b a : ℕ) (whole : length x ≡ w * h) (row : b < 4) (column : a < 4) where
@@ -88,23 +88,23 @@ module _ (w h : ℕ) (x : List ℕ) (b a : ℕ) (whole : length x ≡ w * h) (ro
   start j = (b * (h / 4) + j) * w + a * (w / 4)
 
   -- each of its rows has w/4 pixels: it ends within the picture's row
-  length-tile-row : (j : ℕ) → j < h / 4 → length (take (w / 4) (drop (start j) x)) ≡ w / 4
-  length-tile-row j p =
+  length_tile_row : (j : ℕ) → j < h / 4 → length (take (w / 4) (drop (start j) x)) ≡ w / 4
+  length_tile_row j p =
       let down : b * (h / 4) ≤ 3 * (h / 4) = mul-le-mul_right (h / 4) (omega arith) in
       let across : a * (w / 4) ≤ 3 * (w / 4) = mul-le-mul_right (w / 4) (omega arith) in
       let inside : start j + w / 4 ≤ length x = omega (arith, row_end w h (b * (h / 4) + j) (omega arith)) in
       simp (length-take, length-drop) (omega arith)
 
   -- "tiles of w/4 by h/4 pixels"
-  pub length-tile : length (tile w h x b a) ≡ h / 4 * (w / 4)
+  pub length_tile : length (tile w h x b a) ≡ h / 4 * (w / 4)
   unfolding tile
-  length-tile = length_joined (h / 4) (w / 4) _ length-tile-row
+  length_tile = length_joined (h / 4) (w / 4) _ length_tile_row
 
   -- the pixel in its row j and column i is the picture's in row b·(h/4) + j and column a·(w/4) + i
-  pub tile-at : (j i : ℕ) → j < h / 4 → i < w / 4 → get_or (tile w h x b a) (j * (w / 4) + i) 0 ≡ get_or x ((b * (h / 4) + j) * w + (a * (w / 4) + i)) 0
+  pub tile_at : (j i : ℕ) → j < h / 4 → i < w / 4 → get_or (tile w h x b a) (j * (w / 4) + i) 0 ≡ get_or x ((b * (h / 4) + j) * w + (a * (w / 4) + i)) 0
   unfolding tile
-  tile-at j i p q =
-      joined_at (h / 4) (w / 4) _ length-tile-row j i p q
+  tile_at j i p q =
+      joined_at (h / 4) (w / 4) _ length_tile_row j i p q
       ∙ part_at (start j) (w / 4) x i q
       ∙ ap (λ (k : ℕ). get_or x k 0) (omega arith)
 
@@ -116,11 +116,11 @@ module _ (w h : ℕ) (x : List ℕ) (whole : length x ≡ w * h) (fours : (w % 4
       let some : 0 < n / 4 = omega arith in
       (some, (div-lt_iff_lt-mul some).1 (omega arith))
 
-  pub in-a-tile : get_or (tile w h x (row / (h / 4)) (column / (w / 4))) (row % (h / 4) * (w / 4) + column % (w / 4)) 0 ≡ get_or x (row * w + column) 0
-  in-a-tile =
+  pub in_a_tile : get_or (tile w h x (row / (h / 4)) (column / (w / 4))) (row % (h / 4) * (w / 4) + column % (w / 4)) 0 ≡ get_or x (row * w + column) 0
+  in_a_tile =
       let down = quarter h row fours.1 inside.0 in
       let across = quarter w column fours.0 inside.1 in
       let here : row / (h / 4) * (h / 4) + row % (h / 4) ≡ row = div-add-mod' row (h / 4) in
       let there : column / (w / 4) * (w / 4) + column % (w / 4) ≡ column = div-add-mod' column (w / 4) in
-      tile-at w h x (row / (h / 4)) (column / (w / 4)) whole down.1 across.1 (row % (h / 4)) (column % (w / 4)) (mod-lt row down.0) (mod-lt column across.0)
+      tile_at w h x (row / (h / 4)) (column / (w / 4)) whole down.1 across.1 (row % (h / 4)) (column % (w / 4)) (mod-lt row down.0) (mod-lt column across.0)
       ∙ rw (here, there)

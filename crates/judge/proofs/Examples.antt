@@ -19,7 +19,7 @@ use Rattle.judge.specs.Extremes.{maximum, minimum, tile, over_tiles}
 use Rattle.judge.specs.Noise.{counts}
 use Rattle.judge.specs.Judge.{InRange, Rated, verdict, refused, JudgeIs}
 use Rattle.judge.proofs.Ratios.{reaches_falls}
-use Rattle.judge.proofs.Outcomes.{one-judge}
+use Rattle.judge.proofs.Outcomes.{one_judge}
 
 -- ---- a row of the table: what the judge is given, and what comes back
 pub record Row : Type 0 where
@@ -73,7 +73,7 @@ Holds r = (v : Verdict) → JudgeIs r.count (eighths r.bright) (eighths r.dark) 
 unfoldable pub holds : (r : Row) → Option (Holds r)
 unfolding dec_le dec_lt ℕ_discrete Dec.and Dec.not when unless in_range back rated permitted
 holds r =
-    map (λ p v is. one-judge r.count (eighths r.bright) (eighths r.dark) r.spread v (verdict r.number r.ratio) is p)
+    map (λ p v is. one_judge r.count (eighths r.bright) (eighths r.dark) r.spread v (verdict r.number r.ratio) is p)
     (permitted r.count r.bright r.dark r.spread r.number r.ratio)
 
 -- N, M, m and D, then the number and q: the greatest q that is discarded; one that comes out otherwise where products wrap at 64

@@ -44,28 +44,28 @@ module _ (w i j : ℕ) (column : i < w) where
   row_is : (j * w + i) / w ≡ j
   row_is = mul-add-div_right (let some : 0 < w = omega arith in some) j i ∙ rw (div-eq_of_lt column) (omega arith)
 
-  column-is : (j * w + i) % w ≡ i
-  column-is = mul-add-mod_self_right j w i ∙ mod-eq_of_lt column
+  column_is : (j * w + i) % w ≡ i
+  column_is = mul-add-mod_self_right j w i ∙ mod-eq_of_lt column
 
 module _ (w h i j : ℕ) (column : i < w) where
-  counts-at : counts w h (j * w + i) ≡ not (outermost h j || outermost w i)
-  counts-at = rw (row_is w i j column, column-is w i j column)
+  counts_at : counts w h (j * w + i) ≡ not (outermost h j || outermost w i)
+  counts_at = rw (row_is w i j column, column_is w i j column)
 
   -- it counts exactly when 3 ≤ i < w − 3 and 3 ≤ j < h − 3
-  pub counts-exactly : Exactly (counts w h (j * w + i) ≡ true) (((3 ≤ i) × (i < w - 3)) × ((3 ≤ j) × (j < h - 3)))
-  counts-exactly = (to, of)
+  pub counts_exactly : Exactly (counts w h (j * w + i) ≡ true) (((3 ≤ i) × (i < w - 3)) × ((3 ≤ j) × (j < h - 3)))
+  counts_exactly = (to, of)
     where
       to : counts w h (j * w + i) ≡ true → ((3 ≤ i) × (i < w - 3)) × ((3 ≤ j) × (j < h - 3))
       to e =
-          let both = neither (outermost h j) (outermost w i) (not-true (outermost h j || outermost w i) (sym counts-at ∙ e)) in
+          let both = neither (outermost h j) (outermost w i) (not-true (outermost h j || outermost w i) (sym counts_at ∙ e)) in
           ((stays_exactly w i).0 both.1, (stays_exactly h j).0 both.0)
 
       of : ((3 ≤ i) × (i < w - 3)) × ((3 ≤ j) × (j < h - 3)) → counts w h (j * w + i) ≡ true
-      of p = rw (counts-at, (stays_exactly h j).1 p.1, (stays_exactly w i).1 p.0)
+      of p = rw (counts_at, (stays_exactly h j).1 p.1, (stays_exactly w i).1 p.0)
 
 -- the pixel in column i and row j of those that count stands three columns and three rows on
 pub place_is : (w i j : ℕ) → i < w - 6 → inner_place w (j * (w - 6) + i) ≡ (j + 3) * w + (i + 3)
-place_is w i j column = rw (row_is (w - 6) i j column, column-is (w - 6) i j column)
+place_is w i j column = rw (row_is (w - 6) i j column, column_is (w - 6) i j column)
 
 -- a sum over n numbers without the outermost
 sum_within : (n : ℕ) (f : ℕ → ℕ) → sum n (λ k. cond (outermost n k) 0 (f k)) ≡ sum (n - 6) (λ k. f (k + 3))
@@ -103,7 +103,7 @@ module _ (w h : ℕ) (f : ℕ → ℕ) where
   -- one row of the picture: nothing where it is left out, else what is within it
   row_within : (j : ℕ) → sum w (λ i. cond (counts w h (j * w + i)) (f (j * w + i)) 0) ≡ cond (outermost h j) 0 (sum (w - 6) (λ i. f (j * w + (i + 3))))
   row_within j =
-      sum_same w _ (λ i. cond (outermost h j) 0 (cond (outermost w i) 0 (f (j * w + i)))) (λ i l. rw (counts-at w h i j l) (both (outermost h j) (outermost w i) (f (j * w + i))))
+      sum_same w _ (λ i. cond (outermost h j) 0 (cond (outermost w i) 0 (f (j * w + i)))) (λ i l. rw (counts_at w h i j l) (both (outermost h j) (outermost w i) (f (j * w + i))))
       ∙ whole (outermost h j)
     where
       both : (a b : Bool) (v : ℕ) → cond (not (a || b)) v 0 ≡ cond a 0 (cond b 0 v)
@@ -116,9 +116,9 @@ module _ (w h : ℕ) (f : ℕ → ℕ) where
       whole false = sum_within w (λ i. f (j * w + i))
 
   -- it is h − 6 rows of w − 6, from row 3 and column 3 on
-  pub by-rows-and-columns : sum_over (w * h) (counts w h) f ≡ sum (h - 6) (λ j. sum (w - 6) (λ i. f ((j + 3) * w + (i + 3))))
+  pub by_rows_and_columns : sum_over (w * h) (counts w h) f ≡ sum (h - 6) (λ j. sum (w - 6) (λ i. f ((j + 3) * w + (i + 3))))
   unfolding sum_over
-  by-rows-and-columns =
+  by_rows_and_columns =
       let kept : ℕ → ℕ = λ k. cond (counts w h k) (f k) 0 in
       ap (λ (n : ℕ). sum n kept) (mul_comm w h)
       ∙ sum_by_rows h w kept
@@ -126,16 +126,16 @@ module _ (w h : ℕ) (f : ℕ → ℕ) where
       ∙ sum_within h (λ j. sum (w - 6) (λ i. f (j * w + (i + 3))))
 
   -- and so a sum of N numbers
-  pub over-inner : sum_over (w * h) (counts w h) f ≡ sum (inner_pixels w h) (λ k. f (inner_place w k))
-  over-inner =
-      by-rows-and-columns
+  pub over_inner : sum_over (w * h) (counts w h) f ≡ sum (inner_pixels w h) (λ k. f (inner_place w k))
+  over_inner =
+      by_rows_and_columns
       ∙ sum_same (h - 6) _ (λ j. sum (w - 6) (λ i. f (inner_place w (j * (w - 6) + i)))) (λ j l. sum_same (w - 6) _ _ (λ i g. ap f (sym (place_is w i j g))))
       ∙ sym (sum_by_rows (h - 6) (w - 6) (λ k. f (inner_place w k)))
       ∙ ap (λ (n : ℕ). sum n (λ k. f (inner_place w k))) (mul_comm (h - 6) (w - 6))
 
 -- there are N of them
 pub as_many : (w h : ℕ) → sum_over (w * h) (counts w h) (λ k. 1) ≡ inner_pixels w h
-as_many w h = over-inner w h (λ k. 1) ∙ sum_equal 1 (inner_pixels w h) (λ k. 1) (λ k l. refl) ∙ mul-one (inner_pixels w h)
+as_many w h = over_inner w h (λ k. 1) ∙ sum_equal 1 (inner_pixels w h) (λ k. 1) (λ k l. refl) ∙ mul-one (inner_pixels w h)
 
 -- a picture that can be measured has some
 pub some_inner : (w h : ℕ) → MeasurableSide w × MeasurableSide h → 1 ≤ inner_pixels w h

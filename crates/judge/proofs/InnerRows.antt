@@ -11,7 +11,7 @@ use Rattle.picture.proofs.Shapes.{pixels}
 use Rattle.judge.specs.Noise.{inner_pixels}
 use Rattle.judge.specs.Asked.{Tiled, SamePixels, light, flat, inner_place, Sums}
 use Rattle.judge.proofs.Inner.{place_is, few_inner}
-use Rattle.judge.proofs.Spreads.{light_at, flat_at, sums_none, sums-joined}
+use Rattle.judge.proofs.Spreads.{light_at, flat_at, sums_none, sums_joined}
 
 -- what the loop knows after j rows
 pub record Rows (w : ℕ) (levels filtered : List ℕ) (squares lights flats at j : ℕ) : Type 0 where
@@ -70,7 +70,7 @@ module _ (w h : ℕ) (levels filtered : List ℕ) (t : Tiled w h filtered) (all 
           at_is = omega (arith, s.at_is, add-mul j 1 w);
           sums =
               rw (add-mul j 1 (w - 6), one-mul (w - 6))
-              (sums-joined (light_at w levels) (flat_at w filtered) (light (row levels)) (flat (row filtered)) (j * (w - 6)) (w - 6)
+              (sums_joined (light_at w levels) (flat_at w filtered) (light (row levels)) (flat (row filtered)) (j * (w - 6)) (w - 6)
               (λ k g. ap (λ (v : ℕ). 8 * v) (next levels k g)) (next filtered) s.sums (rw (long filtered t.whole) at q));
         }
 

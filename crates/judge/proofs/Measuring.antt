@@ -8,7 +8,7 @@ use Rattle.answers.specs.Refusals.{Unless}
 use Rattle.answers.proofs.Refusals.{stops, goes_on, carried}
 use Rattle.filter.specs.Filter.{pass_three, Sized, outcome, Filtered, FilterIs}
 use Rattle.picture.proofs.Shapes.{passes_both}
-use Rattle.filter.proofs.Outcomes.{Fits, when-fits}
+use Rattle.filter.proofs.Outcomes.{Fits, when_fits}
 use Rattle.judge.specs.declared.Verdict.{Verdict}
 use Rattle.judge.specs.Judge.{refused}
 use Rattle.judge.specs.Measure.{MeasurableSide, Judged, Measurement, measurement, Measured, MeasureIs}
@@ -16,9 +16,9 @@ use Rattle.judge.specs.Asked.{Tiled}
 
 module _ (levels : List ℕ) (w h : ℕ) (output work : List ℕ) where
   -- a call refused for its sizes: the number, and nothing written
-  pub refused-for-sizes : (n : ℕ) (v : Verdict) → ¬ (n ≡ 0) → v ≡ refused n → Sized (length levels) w h (length output) (length work) (λ k. n ≡ k) (n ≡ 0)
+  pub refused_for_sizes : (n : ℕ) (v : Verdict) → ¬ (n ≡ 0) → v ≡ refused n → Sized (length levels) w h (length output) (length work) (λ k. n ≡ k) (n ≡ 0)
       → MeasureIs levels w h output work (measurement v output work)
-  refused-for-sizes n v some is = carried back (carried back (carried back (carried back (λ z. absurd (some z)))))
+  refused_for_sizes n v some is = carried back (carried back (carried back (carried back (λ z. absurd (some z)))))
     where
       back : {k : ℕ} → n ≡ k → measurement v output work ≡ measurement (refused k) output work
       back e = ap (λ (u : Verdict). measurement u output work) (is ∙ ap refused e)
@@ -35,7 +35,7 @@ module _ (levels : List ℕ) (w h : ℕ) (output work : List ℕ) where
     -- a picture that is filtered: its output starts with pass three, which can be cut into tiles
     module _ (sides : MeasurableSide w × MeasurableSide h) (n : ℕ) (output' work' : List ℕ) (promise : FilterIs levels w h output work (outcome n output' work')) where
       filtered : Filtered levels w h output work (outcome n output' work')
-      filtered = when-fits levels w h output work (outcome n output' work') f promise
+      filtered = when_fits levels w h output work (outcome n output' work') f promise
 
       starts : take (w * h) output' ≡ pass_three w h levels
       starts = ap (take (w * h)) filtered.is_pass_three ∙ take_at (pass_three w h levels) (drop (w * h) output) (w * h) filtered.long

@@ -19,8 +19,8 @@ use Rattle.judge.specs.Measure.{MeasurableSide, Judged, Measurement, measurement
 
 -- two verdicts past all tests have one ratio, and so one number
 module _ (N : ℕ) (M m : Eighths) (D : ℕ) (v v' : Verdict) where
-  one-rated : Rated N M m D v → Rated N M m D v' → v ≡ v'
-  one-rated a b = λ i. verdict (number i) (ratio i)
+  one_rated : Rated N M m D v → Rated N M m D v' → v ≡ v'
+  one_rated a b = λ i. verdict (number i) (ratio i)
     where
       ratio : v.ratio ≡ v'.ratio
       ratio = one_ratio N (M.0 - m.0) D v.ratio v'.ratio a.ratio b.ratio
@@ -29,8 +29,8 @@ module _ (N : ℕ) (M m : Eighths) (D : ℕ) (v v' : Verdict) where
       number = together alike alike a.number (rw (← ratio) at b.number)
 
   -- any two verdicts that the judge's promise permits are equal
-  pub one-judge : JudgeIs N M m D v → JudgeIs N M m D v' → v ≡ v'
-  one-judge = together alike (together alike (together alike (together alike one-rated)))
+  pub one_judge : JudgeIs N M m D v → JudgeIs N M m D v' → v ≡ v'
+  one_judge = together alike (together alike (together alike (together alike one_rated)))
 
 -- "8 | D = 0", where the extremes pass
 pub without_noise : (N : ℕ) (M m : Eighths) (v : Verdict) → InRange N M m 0 → BrightInRange M → DarkInRange m → JudgeIs N M m 0 v → v ≡ refused 8
@@ -42,15 +42,15 @@ without_noise N M m v taken bright_in dark_in j = elim (past dark_in (past brigh
 -- any two verdicts on one filtered picture are equal
 pub one_judged : (levels filtered : List ℕ) (w h : ℕ) (v v' : Verdict) → Judged levels filtered w h v → Judged levels filtered w h v' → v ≡ v'
 one_judged levels filtered w h v v' a b =
-    one-judge (inner_pixels w h) (bright w h filtered) (dark w h filtered) b.spread v v' (rw spread at a.verdict_is) b.verdict_is
+    one_judge (inner_pixels w h) (bright w h filtered) (dark w h filtered) b.spread v v' (rw spread at a.verdict_is) b.verdict_is
   where
     spread : a.spread ≡ b.spread
     spread = ap nat_of (alike a.spread_is b.spread_is)
 
 -- any two outcomes that the promise of measuring permits are equal
 module _ (levels : List ℕ) (w h : ℕ) (output work : List ℕ) (a b : Measurement) where
-  one-measured : Measured levels w h output work a → Measured levels w h output work b → a ≡ b
-  one-measured p q = λ i. measurement (v i) (o i) (k i)
+  one_measured : Measured levels w h output work a → Measured levels w h output work b → a ≡ b
+  one_measured p q = λ i. measurement (v i) (o i) (k i)
     where
       v : a.verdict ≡ b.verdict
       v = one_judged levels (pass_three w h levels) w h a.verdict b.verdict p.judged q.judged
@@ -61,8 +61,8 @@ module _ (levels : List ℕ) (w h : ℕ) (output work : List ℕ) (a b : Measure
       k : a.work ≡ b.work
       k = alike p.filtered.is_pass_two q.filtered.is_pass_two
 
-  pub one-measure : MeasureIs levels w h output work a → MeasureIs levels w h output work b → a ≡ b
-  one-measure = together alike (together alike (together alike (together alike (together alike one-measured))))
+  pub one_measure : MeasureIs levels w h output work a → MeasureIs levels w h output work b → a ≡ b
+  one_measure = together alike (together alike (together alike (together alike (together alike one_measured))))
 
 -- past the sizes, with sides that can be measured
 pub when_measured : (levels : List ℕ) (w h : ℕ) (output work : List ℕ) (r : Measurement) → Fits (length levels) w h (length output) (length work)

@@ -19,11 +19,11 @@ module _ {v q : ℕ} (left : v ≤ 2 ^ 70) (number : q ≤ 2 ^ 42) where
   small : q + 138 ≤ 2 ^ 43
   small = omega arith
 
-  pub once-room : v * (q + 138) < 65536 ^ 10
-  once-room = product_room left small (lit< tt)
+  pub once_room : v * (q + 138) < 65536 ^ 10
+  once_room = product_room left small (lit< tt)
 
-  pub twice-room : {once : ℕ} → once ≡ v * (q + 138) → once * (q + 138) < 65536 ^ 10
-  twice-room e = rw e (product_room (mul-le-mul left small) small (lit< tt))
+  pub twice_room : {once : ℕ} → once ≡ v * (q + 138) → once * (q + 138) < 65536 ^ 10
+  twice_room e = rw e (product_room (mul-le-mul left small) small (lit< tt))
 
 -- a number times x twice is that number times the square of x
 pub twice_is_square : (v x : ℕ) {once twice : ℕ} → once ≡ v * x → twice ≡ once * x → twice ≡ x * x * v
@@ -54,8 +54,8 @@ quartered_none h = record { power_some = omega arith; rest_some = h; low = omega
 
 module _ {d power rest : ℕ} (q : Quartered d power rest) where
   -- one turn more
-  pub quartered-more : 4 ≤ rest → Quartered d (power * 2) (rest / 4)
-  quartered-more h =
+  pub quartered_more : 4 ≤ rest → Quartered d (power * 2) (rest / 4)
+  quartered_more h =
       let square = power * power in
       let down : 4 * (rest / 4) ≤ rest = omega arith in
       let up : rest + 1 ≤ 4 * (rest / 4 + 1) = omega arith in
@@ -67,17 +67,17 @@ module _ {d power rest : ℕ} (q : Quartered d power rest) where
       }
 
   -- the power's square is at most d all along
-  square-most : power * power ≤ d
-  square-most = omega (arith, mul-le-mul_left (power * power) q.rest_some, q.low)
+  square_most : power * power ≤ d
+  square_most = omega (arith, mul-le-mul_left (power * power) q.rest_some, q.low)
 
   -- so the power has at most half the bits
-  pub power-most : d ≤ 2 ^ 62 → power ≤ 2 ^ 31
-  power-most h = of_squares (le_trans square-most h)
+  pub power_most : d ≤ 2 ^ 62 → power ≤ 2 ^ 31
+  power_most h = of_squares (le_trans square_most h)
 
   -- after the last turn the power is the one below the root
-  pub quartered-last : d ≤ 2 ^ 62 → rest ≤ 3 → BelowRoot d power
-  quartered-last h last =
-      (q.power_some, power-most h, square-most, omega (arith, mul-le-mul_left (power * power) last, q.high))
+  pub quartered_last : d ≤ 2 ^ 62 → rest ≤ 3 → BelowRoot d power
+  quartered_last h last =
+      (q.power_some, power_most h, square_most, omega (arith, mul-le-mul_left (power * power) last, q.high))
 
 -- ---- the condition
 -- what the code compares: the document's inequality, of the two sides as they stand in the code
@@ -113,22 +113,22 @@ pub record Sides (N span D left right : ℕ) : Type 0 where
 
 module _ {N span D left right : ℕ} (sides : Sides N span D left right) where
   -- how large the left one is
-  pub left-most : D ≤ 2 ^ 62 → left ≤ 2 ^ 70
-  left-most h = omega (arith, sides.left_is)
+  pub left_most : D ≤ 2 ^ 62 → left ≤ 2 ^ 70
+  left_most h = omega (arith, sides.left_is)
 
   -- they are the document's
-  document-left : (n : ℕ) → n * left ≡ n * 256 * D
-  document-left n = rw sides.left_is (omega arith)
+  document_left : (n : ℕ) → n * left ≡ n * 256 * D
+  document_left n = rw sides.left_is (omega arith)
 
-  document-right : right ≡ 10_000 * (span * span) * (N * N)
-  document-right = sides.right_is ∙ product_squared N span
+  document_right : right ≡ 10_000 * (span * span) * (N * N)
+  document_right = sides.right_is ∙ product_squared N span
 
   -- so comparing them says the same
-  to-document : (q : ℕ) → Compared left right q → Reaches N span D q
-  to-document q h = rw (← document-left ((q + 138) * (q + 138)), ← document-right) h
+  to_document : (q : ℕ) → Compared left right q → Reaches N span D q
+  to_document q h = rw (← document_left ((q + 138) * (q + 138)), ← document_right) h
 
-  of-document : (q : ℕ) → Reaches N span D q → Compared left right q
-  of-document q h = rw (document-left ((q + 138) * (q + 138)), document-right) h
+  of_document : (q : ℕ) → Reaches N span D q → Compared left right q
+  of_document q h = rw (document_left ((q + 138) * (q + 138)), document_right) h
 
   -- 16·p is at most the root of the left side, and 32·p is above it
   module _ {p : ℕ} (root : BelowRoot D p) where
@@ -137,7 +137,7 @@ module _ {N span D left right : ℕ} (sides : Sides N span D left right) where
     at-most-16th k h =
         let x = k + 138 in
         let some : 0 < 16 * p = omega (arith, root.0) in
-        (le-div_iff_mul-le some).1 (of_squares (omega (arith, mul-le-mul_left (x * x * 256) root.2, document-left (x * x), h, sides.right_is)))
+        (le-div_iff_mul-le some).1 (of_squares (omega (arith, mul-le-mul_left (x * x * 256) root.2, document_left (x * x), h, sides.right_is)))
 
     -- and a number that is, with 138, at most the product over 32·p reaches
     reaches-32nd : (k : ℕ) → k + 138 ≤ product N span / (32 * p) → Compared left right k
@@ -145,7 +145,7 @@ module _ {N span D left right : ℕ} (sides : Sides N span D left right) where
         let x = k + 138 in
         let some : 0 < 32 * p = omega (arith, root.0) in
         let within : x * (32 * p) ≤ product N span = (le-div_iff_mul-le some).0 h in
-        omega (arith, mul-le-mul within within, mul-le-mul_left (x * x * 256) root.3, document-left (x * x), sides.right_is)
+        omega (arith, mul-le-mul within within, mul-le-mul_left (x * x * 256) root.3, document_left (x * x), sides.right_is)
 
     -- where 0 reaches, the product over 16·p is at least 138
     pub quotient-least : Compared left right 0 → 138 ≤ product N span / (16 * p)
@@ -165,16 +165,16 @@ module _ {N span D left right : ℕ} (sides : Sides N span D left right) where
 
   -- what halving finds is the ratio
   pub found : {q : ℕ} → Greatest (Compared left right) q → RatioIs N span D q
-  found g = inl (reworded to-document of-document g)
+  found g = inl (reworded to_document of_document g)
 
   -- where 0 does not reach, there is none
   pub none_found : ¬ Compared left right 0 → RatioIs N span D 0
-  none_found past = inr ((λ (k : ℕ) h. past (compared_falls left right 0 k zero-le (of-document k h))), refl)
+  none_found past = inr ((λ (k : ℕ) h. past (compared_falls left right 0 k zero-le (of_document k h))), refl)
 
 -- ---- for every N, M − m and D
 -- where the ratio is q hundredths or more, it is so for each smaller q
 pub reaches_falls : (N span D : ℕ) → Falling (Reaches N span D)
-reaches_falls N span D j k le h = to-document sides j (compared_falls (D * 256) (product N span * product N span) j k le (of-document sides k h))
+reaches_falls N span D j k le h = to_document sides j (compared_falls (D * 256) (product N span * product N span) j k le (of_document sides k h))
   where
     sides : Sides N span D (D * 256) (product N span * product N span)
     sides = record { left_is = refl; right_is = refl }

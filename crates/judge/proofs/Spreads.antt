@@ -13,11 +13,11 @@ use Rattle.arithmetic.specs.Lists.{AtMost}
 use Rattle.arithmetic.specs.Sums.{sum}
 use Rattle.arithmetic.proofs.Order.{le_or_lt}
 use Rattle.arithmetic.proofs.Differences.{pos_minus, sub_pos, sub_neg}
-use Rattle.arithmetic.proofs.Sums.{sum_none, sum_more, sum_goes_on, square-of-sum}
-use Rattle.arithmetic.proofs.SignedSums.{over-natural, over-minus}
+use Rattle.arithmetic.proofs.Sums.{sum_none, sum_more, sum_goes_on, square_of_sum}
+use Rattle.arithmetic.proofs.SignedSums.{over_natural, over_minus}
 use Rattle.judge.specs.Noise.{counts, inner_pixels, difference, sum_inner, spread_of}
 use Rattle.judge.specs.Asked.{dist, light, flat, inner_place, squared_at, Sums}
-use Rattle.judge.proofs.Inner.{over-inner}
+use Rattle.judge.proofs.Inner.{over_inner}
 
 -- the square of a difference is the square of how far the two are apart
 square_apart : (a b : ℕ) → square (pos a -ℤ pos b) ≡ pos (dist a b * dist a b)
@@ -35,18 +35,18 @@ sums_apart (suc n) f g = omega (arith, sums_apart n f g)
 -- n pixels, of which l k is 8 times the level of the k-th and f k its filtered eighths
 module _ (n : ℕ) (l f : ℕ → ℕ) where
   -- the sum of d²
-  abbrev squaresOf : ℕ
-  squaresOf = sum n (squared_at l f)
+  abbrev squares_of : ℕ
+  squares_of = sum n (squared_at l f)
 
   -- how far the sum of d is from 0
-  abbrev awayOf : ℕ
-  awayOf = dist (sum n l) (sum n f)
+  abbrev away_of : ℕ
+  away_of = dist (sum n l) (sum n f)
 
   -- the square of the sum is at most n times the sum of the squares
-  never-wraps : awayOf * awayOf ≤ n * squaresOf
-  never-wraps =
+  never_wraps : away_of * away_of ≤ n * squares_of
+  never_wraps =
       let apart = sums_apart n l f in
-      le_trans (mul-le-mul apart apart) (square-of-sum (λ k. dist (l k) (f k)) n)
+      le_trans (mul-le-mul apart apart) (square_of_sum (λ k. dist (l k) (f k)) n)
 
 -- the three sums, of any such pixels
 module _ (l f : ℕ → ℕ) where
@@ -63,9 +63,9 @@ module _ (l f : ℕ → ℕ) where
       }
 
   -- with one pixel more, where a is 8 times its level and d how far the filtered value is from it
-  pub sums-more : {k squares lights flats a d : ℕ} → f k ≤ 2040 → (a ≡ l k) × (a ≤ 2040) → d ≡ dist a (f k)
+  pub sums_more : {k squares lights flats a d : ℕ} → f k ≤ 2040 → (a ≡ l k) × (a ≤ 2040) → d ≡ dist a (f k)
       → Sums l f k squares lights flats → Sums l f (k + 1) (squares + d * d) (lights + a) (flats + f k)
-  sums-more {k} {squares} {lights} {flats} {a} {d} small lit apart s =
+  sums_more {k} {squares} {lights} {flats} {a} {d} small lit apart s =
       let near : d ≤ 2040 = omega (arith, lit.1, small) in
       let is : d ≡ dist (l k) (f k) = rw lit.0 at apart in
       record {
@@ -78,14 +78,14 @@ module _ (l f : ℕ → ℕ) where
       }
 
   -- where a loop ends
-  pub sums-done : {k n squares lights flats : ℕ} → k ≤ n → n ≤ k → Sums l f k squares lights flats → Sums l f n squares lights flats
-  sums-done {k} {n} {squares} {lights} {flats} h g s = subst (λ (m : ℕ). Sums l f m squares lights flats) (le_antisymm h g) s
+  pub sums_done : {k n squares lights flats : ℕ} → k ≤ n → n ≤ k → Sums l f k squares lights flats → Sums l f n squares lights flats
+  sums_done {k} {n} {squares} {lights} {flats} h g s = subst (λ (m : ℕ). Sums l f m squares lights flats) (le_antisymm h g) s
 
   -- with the next n pixels, of which the k-th has l' k and f' k
-  pub sums-joined : (l' f' : ℕ → ℕ) (at n : ℕ) → ((k : ℕ) → k < n → l' k ≡ l (at + k)) → ((k : ℕ) → k < n → f' k ≡ f (at + k))
+  pub sums_joined : (l' f' : ℕ → ℕ) (at n : ℕ) → ((k : ℕ) → k < n → l' k ≡ l (at + k)) → ((k : ℕ) → k < n → f' k ≡ f (at + k))
       → {squares lights flats a b c : ℕ} → Sums l f at squares lights flats → Sums l' f' n a b c
       → Sums l f (at + n) (squares + a) (lights + b) (flats + c)
-  sums-joined l' f' at n lit flat {squares} {lights} {flats} {a} {b} {c} p q =
+  sums_joined l' f' at n lit flat {squares} {lights} {flats} {a} {b} {c} p q =
       record {
         squares_is = rw (p.squares_is, q.squares_is) (sum_goes_on at n (squared_at l f) (squared_at l' f') (λ k h. rw (lit k h, flat k h)));
         lights_is = rw (p.lights_is, q.lights_is) (sum_goes_on at n l l' lit);
@@ -96,10 +96,10 @@ module _ (l f : ℕ → ℕ) where
       }
 
   -- of all n pixels, where no number is too great
-  all-sums : ((k : ℕ) → l k ≤ 2040) → ((k : ℕ) → f k ≤ 2040) → (n : ℕ) → Sums l f n (squaresOf n l f) (sum n l) (sum n f)
+  all_sums : ((k : ℕ) → l k ≤ 2040) → ((k : ℕ) → f k ≤ 2040) → (n : ℕ) → Sums l f n (squares_of n l f) (sum n l) (sum n f)
   unfolding sum
-  all-sums bytes small zero = sums_none
-  all-sums bytes small (suc n) = rw add-one at (sums-more (small n) (refl, bytes n) refl (all-sums bytes small n))
+  all_sums bytes small zero = sums_none
+  all_sums bytes small (suc n) = rw add-one at (sums_more (small n) (refl, bytes n) refl (all_sums bytes small n))
 
   -- the product has room
   pub room : {n squares lights flats : ℕ} → Sums l f n squares lights flats → n ≤ 1048576 → n * squares ≤ 2 ^ 62
@@ -107,7 +107,7 @@ module _ (l f : ℕ → ℕ) where
 
   -- and the subtraction never wraps
   pub no_wrap : {n squares lights flats away : ℕ} → Sums l f n squares lights flats → away ≡ dist lights flats → away * away ≤ n * squares
-  no_wrap {n} s is = rw (is, s.squares_is, s.lights_is, s.flats_is) (never-wraps n l f)
+  no_wrap {n} s is = rw (is, s.squares_is, s.lights_is, s.flats_is) (never_wraps n l f)
 
 -- ---- D of a picture: the pixels are those of it that count
 -- 8 times the level of the k-th of them, and its filtered eighths
@@ -121,40 +121,40 @@ module _ (w h : ℕ) (levels filtered : List ℕ) where
   abbrev N : ℕ
   N = inner_pixels w h
 
-  abbrev squaresIn : ℕ
-  squaresIn = squaresOf N (light_at w levels) (flat_at w filtered)
+  abbrev squares_in : ℕ
+  squares_in = squares_of N (light_at w levels) (flat_at w filtered)
 
-  abbrev awayIn : ℕ
-  awayIn = awayOf N (light_at w levels) (flat_at w filtered)
+  abbrev away_in : ℕ
+  away_in = away_of N (light_at w levels) (flat_at w filtered)
 
   -- in natural numbers
-  in-naturals : spread_of w h levels filtered ≡ pos (N * squaresIn - awayIn * awayIn)
+  in_naturals : spread_of w h levels filtered ≡ pos (N * squares_in - away_in * away_in)
   unfolding spread_of sum_inner
-  in-naturals =
+  in_naturals =
       let l = light levels in
       let f = flat filtered in
       rw (
-        over-natural (w * h) (counts w h) (λ k. square (difference levels filtered k)) (squared_at l f) (λ k. square_apart (l k) (f k)),
-        over-minus (w * h) (counts w h) l f,
-        over-inner w h (squared_at l f),
-        over-inner w h l,
-        over-inner w h f,
+        over_natural (w * h) (counts w h) (λ k. square (difference levels filtered k)) (squared_at l f) (λ k. square_apart (l k) (f k)),
+        over_minus (w * h) (counts w h) l f,
+        over_inner w h (squared_at l f),
+        over_inner w h l,
+        over_inner w h f,
         square_apart (sum N (light_at w levels)) (sum N (flat_at w filtered)),
-        pos_minus (N * squaresIn) (awayIn * awayIn),
+        pos_minus (N * squares_in) (away_in * away_in),
       )
-      (sub_pos (N * squaresIn) (awayIn * awayIn) (never-wraps N (light_at w levels) (flat_at w filtered)))
+      (sub_pos (N * squares_in) (away_in * away_in) (never_wraps N (light_at w levels) (flat_at w filtered)))
 
   -- never below 0
-  pub never-negative : pos (nat_of (spread_of w h levels filtered)) ≡ spread_of w h levels filtered
-  never-negative = rw in-naturals
+  pub never_negative : pos (nat_of (spread_of w h levels filtered)) ≡ spread_of w h levels filtered
+  never_negative = rw in_naturals
 
   -- and at most 2^62
-  pub spread-most : N ≤ 1048576 → AtMost 255 levels → AtMost 2040 filtered → nat_of (spread_of w h levels filtered) ≤ 2 ^ 62
-  spread-most few bytes small =
-      let all = all-sums (light_at w levels) (flat_at w filtered) (λ k. omega (arith, bytes (inner_place w k))) (λ k. small (inner_place w k)) N in
-      rw in-naturals (omega (arith, room (light_at w levels) (flat_at w filtered) all few))
+  pub spread_most : N ≤ 1048576 → AtMost 255 levels → AtMost 2040 filtered → nat_of (spread_of w h levels filtered) ≤ 2 ^ 62
+  spread_most few bytes small =
+      let all = all_sums (light_at w levels) (flat_at w filtered) (λ k. omega (arith, bytes (inner_place w k))) (λ k. small (inner_place w k)) N in
+      rw in_naturals (omega (arith, room (light_at w levels) (flat_at w filtered) all few))
 
   -- it is what the code makes of the sums of all N
-  pub is-spread : {squares lights flats away : ℕ} → Sums (light_at w levels) (flat_at w filtered) N squares lights flats → away ≡ dist lights flats
+  pub is_spread : {squares lights flats away : ℕ} → Sums (light_at w levels) (flat_at w filtered) N squares lights flats → away ≡ dist lights flats
       → pos (N * squares - away * away) ≡ spread_of w h levels filtered
-  is-spread s is = rw (is, s.squares_is, s.lights_is, s.flats_is) (sym in-naturals)
+  is_spread s is = rw (is, s.squares_is, s.lights_is, s.flats_is) (sym in_naturals)

@@ -140,38 +140,38 @@ tile_is w h b a filtered = joined_same (h / 4) _ _ (λ j. ap (λ (k : ℕ). take
 
 -- the loop over the picture's four bands
 module _ (w h : ℕ) (filtered : List ℕ) where
-  abbrev overBand : (List ℕ → ℕ) → ℕ → ℕ
-  overBand f b = sum 4 (λ a. f (tile w h filtered b a))
+  abbrev over_band : (List ℕ → ℕ) → ℕ → ℕ
+  over_band f b = sum 4 (λ a. f (tile w h filtered b a))
 
   -- a band of parts is a band of tiles
-  band-is : (f : List ℕ → ℕ) (b at : ℕ) → at ≡ 0 + b * (h / 4 * w) → band_of f w (w / 4) (h / 4) at filtered ≡ overBand f b
+  band_is : (f : List ℕ → ℕ) (b at : ℕ) → at ≡ 0 + b * (h / 4 * w) → band_of f w (w / 4) (h / 4) at filtered ≡ over_band f b
   unfolding band_of sum
-  band-is f b at e =
+  band_is f b at e =
       let start : at ≡ b * (h / 4) * w = omega arith in
       rw (start, tile_is w h b 0 filtered, tile_is w h b 1 filtered, tile_is w h b 2 filtered, tile_is w h b 3 filtered)
 
   abbrev pub Bands : ℕ → ℕ → ℕ → ℕ → Type 0
-  Bands = Added (overBand maximum) (overBand minimum) 262140 0 (h / 4 * w)
+  Bands = Added (over_band maximum) (over_band minimum) 262140 0 (h / 4 * w)
 
-  pub bands-none : Bands 0 0 0 0
-  bands-none = added_none (overBand maximum) (overBand minimum) 262140 0 (h / 4 * w)
+  pub bands_none : Bands 0 0 0 0
+  bands_none = added_none (over_band maximum) (over_band minimum) 262140 0 (h / 4 * w)
 
-  pub bands-more : (bright dark at b r s : ℕ) → Bands bright dark at b
+  pub bands_more : (bright dark at b r s : ℕ) → Bands bright dark at b
       → (r ≡ band_of maximum w (w / 4) (h / 4) at filtered) × (r ≤ 262140) → (s ≡ band_of minimum w (w / 4) (h / 4) at filtered) × (s ≤ 262140)
       → Bands (bright + r) (dark + s) (at + h / 4 * w) (b + 1)
-  bands-more bright dark at b r s p is-bright is-dark =
-      added_more (overBand maximum) (overBand minimum) 262140 0 (h / 4 * w) bright dark at b r s p
-      (is-bright.0 ∙ band-is maximum b at p.at_is, is-bright.1)
-      (is-dark.0 ∙ band-is minimum b at p.at_is, is-dark.1)
+  bands_more bright dark at b r s p is-bright is-dark =
+      added_more (over_band maximum) (over_band minimum) 262140 0 (h / 4 * w) bright dark at b r s p
+      (is-bright.0 ∙ band_is maximum b at p.at_is, is-bright.1)
+      (is-dark.0 ∙ band_is minimum b at p.at_is, is-dark.1)
 
   -- all four
-  pub bands-all : (bright dark at b : ℕ) → b ≡ 4 → Bands bright dark at b → (bright ≡ over_tiles maximum w h filtered) × (dark ≡ over_tiles minimum w h filtered)
+  pub bands_all : (bright dark at b : ℕ) → b ≡ 4 → Bands bright dark at b → (bright ≡ over_tiles maximum w h filtered) × (dark ≡ over_tiles minimum w h filtered)
   unfolding over_tiles
-  bands-all bright dark at b e p = (rw e at p.bright_is, rw e at p.dark_is)
+  bands_all bright dark at b e p = (rw e at p.bright_is, rw e at p.dark_is)
 
   -- band b lies in the picture
-  pub band-inside : (at b : ℕ) → Tiled w h filtered → at ≡ 0 + b * (h / 4 * w) → b < 4 → Band w (w / 4) (h / 4) at filtered
-  band-inside at b t e p =
+  pub band_inside : (at b : ℕ) → Tiled w h filtered → at ≡ 0 + b * (h / 4 * w) → b < 4 → Band w (w / 4) (h / 4) at filtered
+  band_inside at b t e p =
       let k : b * (h / 4) ≤ 3 * (h / 4) = mul-le-mul_right (h / 4) (omega arith) in
       let fours = t.measurable in
       let sides = t.sides in

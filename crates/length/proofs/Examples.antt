@@ -13,7 +13,7 @@ use Rattle.arithmetic.proofs.Computed.{when, EveryRow, every_row}
 use Rattle.units.specs.Units.{sixteenths, picometres}
 use Rattle.length.specs.declared.Sharpness.{Sharpness}
 use Rattle.length.specs.Length.{sharpness, LengthIs}
-use Rattle.length.proofs.Laws.{falling, Ranged, is-the-length}
+use Rattle.length.proofs.Laws.{falling, Ranged, is_the_length}
 use Rattle.length.proofs.Outcomes.{one_length}
 
 -- ---- a row of the table: a factor and a pixel size, and what comes back
@@ -46,7 +46,7 @@ module _ (f p n q : ℕ) where
 
       permitted : LengthIs (sixteenths (pos f)) (picometres p) (sharpness n q)
       permitted =
-          is-the-length (sixteenths (pos f)) (picometres p) ranged (sharpness n q) t.1.0
+          is_the_length (sixteenths (pos f)) (picometres p) ranged (sharpness n q) t.1.0
           (by_neighbours (falling (p * f * (p * f))) t.1.1.0 (not-le_of_lt t.1.1.1))
 
   tests : Dec Tests

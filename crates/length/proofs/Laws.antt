@@ -52,8 +52,8 @@ module _ (s : Sixteenths) (p : Picometres) (ok : Ranged (nat_of s.0) p.0) where
   greatest : {q : ℕ} → Greatest (λ k. 512 * (k * k) ≤ p.0 * nat_of s.0 * (p.0 * nat_of s.0)) q → Greatest (NotLonger s p) q
   greatest g = rw whole (reworded (λ (k : ℕ) h. to_ℤ h) (λ (k : ℕ) h. of_ℤ h) g)
 
-  pub is-the-length : (r : Sharpness) → r.number ≡ 0 → Greatest (λ k. 512 * (k * k) ≤ p.0 * nat_of s.0 * (p.0 * nat_of s.0)) r.length.0 → LengthIs s p r
-  is-the-length r done g = goes_on in_range (record { number = done; length = greatest g })
+  pub is_the_length : (r : Sharpness) → r.number ≡ 0 → Greatest (λ k. 512 * (k * k) ≤ p.0 * nat_of s.0 * (p.0 * nat_of s.0)) r.length.0 → LengthIs s p r
+  is_the_length r done g = goes_on in_range (record { number = done; length = greatest g })
 
 -- the product and its square have room in 64 bits
 pub product : {f p : ℕ} → Ranged f p → p * f ≤ 1638400000

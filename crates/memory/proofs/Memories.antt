@@ -30,21 +30,21 @@ module _ (w : ℕ) (rows : List ℕ) where
   unfolding two_of
   second_is = part_row (w + w) 1 (w + w) (w + w + (w + w)) rows (omega arith) (omega arith)
 
-  third-is : third ≡ two_of w rows 2
+  third_is : third ≡ two_of w rows 2
   unfolding two_of
-  third-is = part_row (w + w) 2 (w + w + (w + w)) (w + w + (w + w) + (w + w)) rows (omega arith) (omega arith)
+  third_is = part_row (w + w) 2 (w + w + (w + w)) (w + w + (w + w) + (w + w)) rows (omega arith) (omega arith)
 
-  pub no-levels : ¬ (AtMost 255 (take (w + w) rows)) → ¬ (Ranges w rows)
-  no-levels out r = out (rw (first_two) r.levels)
+  pub no_levels : ¬ (AtMost 255 (take (w + w) rows)) → ¬ (Ranges w rows)
+  no_levels out r = out (rw (first_two) r.levels)
 
-  pub no-halves : ¬ (AtMost 510 second) → ¬ (Ranges w rows)
-  no-halves out r = out (rw second_is r.halves)
+  pub no_halves : ¬ (AtMost 510 second) → ¬ (Ranges w rows)
+  no_halves out r = out (rw second_is r.halves)
 
-  pub ranges-told : (t : Bool) → AtMost 255 (take (w + w) rows) → AtMost 510 second → Unless (AtMost 1020 third) (t ≡ false) (t ≡ true)
+  pub ranges_told : (t : Bool) → AtMost 255 (take (w + w) rows) → AtMost 510 second → Unless (AtMost 1020 third) (t ≡ false) (t ≡ true)
       → Unless (Ranges w rows) (t ≡ false) (t ≡ true)
-  ranges-told t levels halves (inl large) = stops (λ r. large.0 (rw third-is r.quarters)) large.1
-  ranges-told t levels halves (inr quarters) =
-      goes_on (record { levels = rw (first_two) at levels; halves = rw second_is at halves; quarters = rw third-is at quarters.0 })
+  ranges_told t levels halves (inl large) = stops (λ r. large.0 (rw third_is r.quarters)) large.1
+  ranges_told t levels halves (inr quarters) =
+      goes_on (record { levels = rw (first_two) at levels; halves = rw second_is at halves; quarters = rw third_is at quarters.0 })
       quarters.1
 
 -- ---- the whole memory

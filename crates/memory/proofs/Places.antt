@@ -42,30 +42,30 @@ most_over b at l r small small_r =
     (most_drop b (at + length r) l small)
 
 module _ (at : ℕ) (l r : List ℕ) (room : at + length r ≤ length l) where
-  head-long : length (take at l ++ r) ≡ at + length r
-  head-long = length-append (take at l) r ∙ ap (λ (n : ℕ). n + length r) (length-take-le at l (omega arith))
+  head_long : length (take at l ++ r) ≡ at + length r
+  head_long = length-append (take at l) r ∙ ap (λ (n : ℕ). n + length r) (length-take-le at l (omega arith))
 
   -- before it
-  take-before : (n : ℕ) → n ≤ at → take n (over l at r) ≡ take n l
-  take-before n h =
-      take-append-le n (take at l ++ r) (drop (at + length r) l) (rw head-long (omega arith))
+  take_before : (n : ℕ) → n ≤ at → take n (over l at r) ≡ take n l
+  take_before n h =
+      take-append-le n (take at l ++ r) (drop (at + length r) l) (rw head_long (omega arith))
       ∙ take-append-le n (take at l) r (rw (length-take-le at l (omega arith)) h)
       ∙ take-take n at l h
 
   -- behind it
-  drop-behind : (n : ℕ) → at + length r ≤ n → drop n (over l at r) ≡ drop n l
-  drop-behind n h =
+  drop_behind : (n : ℕ) → at + length r ≤ n → drop n (over l at r) ≡ drop n l
+  drop_behind n h =
       let more : at + length r + (n - (at + length r)) ≡ n = omega arith in
       ap (λ (k : ℕ). drop k (over l at r)) (sym more)
       ∙ sym (drop-drop (n - (at + length r)) (at + length r) (over l at r))
-      ∙ ap (drop (n - (at + length r))) (drop_at (take at l ++ r) (drop (at + length r) l) (at + length r) head-long)
+      ∙ ap (drop (n - (at + length r))) (drop_at (take at l ++ r) (drop (at + length r) l) (at + length r) head_long)
       ∙ drop-drop (n - (at + length r)) (at + length r) l
       ∙ ap (λ (k : ℕ). drop k l) more
 
   -- itself
   there : slice at (at + length r) (over l at r) ≡ r
   there =
-      ap (drop at) (take_at (take at l ++ r) (drop (at + length r) l) (at + length r) head-long)
+      ap (drop at) (take_at (take at l ++ r) (drop (at + length r) l) (at + length r) head_long)
       ∙ drop_at (take at l) r at (length-take-le at l (omega arith))
 
 -- ---- a row, or none, written over row i
@@ -73,19 +73,19 @@ module _ (w i : ℕ) (l r : List ℕ) (few : length r ≤ w) (room : i * w + w �
   fits : i * w + length r ≤ length l
   fits = omega arith
 
-  pub row-at-same : length r ≡ w → row_at w (over l (i * w) r) i ≡ r
+  pub row_at_same : length r ≡ w → row_at w (over l (i * w) r) i ≡ r
   unfolding row_at
-  row-at-same e = ap (λ (n : ℕ). slice (i * w) (i * w + n) (over l (i * w) r)) (sym e) ∙ there (i * w) l r fits
+  row_at_same e = ap (λ (n : ℕ). slice (i * w) (i * w + n) (over l (i * w) r)) (sym e) ∙ there (i * w) l r fits
 
-  pub row-at-other : (j : ℕ) → j ≢ i → row_at w (over l (i * w) r) j ≡ row_at w l j
+  pub row_at_other : (j : ℕ) → j ≢ i → row_at w (over l (i * w) r) j ≡ row_at w l j
   unfolding row_at
-  row-at-other j other = elim (dec_lt j i) [
-    | yes g ↦ ap (drop (j * w)) (take-before (i * w) l r fits (j * w + w) (omega (arith, mul-le-mul_right w g, suc-mul j w)))
+  row_at_other j other = elim (dec_lt j i) [
+    | yes g ↦ ap (drop (j * w)) (take_before (i * w) l r fits (j * w + w) (omega (arith, mul-le-mul_right w g, suc-mul j w)))
     | no g ↦
         let more : suc i ≤ j = beyond g in
         let past : i * w + length r ≤ j * w = omega (arith, mul-le-mul_right w more, suc-mul i w) in
         sym (part_is (j * w) (j * w + w) (over l (i * w) r) (omega arith))
-        ∙ ap (take (j * w + w - j * w)) (drop-behind (i * w) l r fits (j * w) past)
+        ∙ ap (take (j * w + w - j * w)) (drop_behind (i * w) l r fits (j * w) past)
         ∙ part_is (j * w) (j * w + w) l (omega arith)
   ]
     where

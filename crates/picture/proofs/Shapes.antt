@@ -23,10 +23,10 @@ passes_both s rest = goes_on s.sides (goes_on s.all_levels rest)
 
 module _ (levels w h r : ℕ) where
   -- where the number is 0, neither does
-  pub well-shaped : r ≡ 0 → Shaped levels w h (λ n. r ≡ n) (r ≡ 0) → WellShaped levels w h
-  well-shaped z (inl a) = absurd (let is = a.1 in let no : ⊥ = omega arith in no)
-  well-shaped z (inr (s, inl a)) = absurd (let is = a.1 in let no : ⊥ = omega arith in no)
-  well-shaped z (inr (s, inr (l, d))) = record { sides = s; all_levels = l }
+  pub well_shaped : r ≡ 0 → Shaped levels w h (λ n. r ≡ n) (r ≡ 0) → WellShaped levels w h
+  well_shaped z (inl a) = absurd (let is = a.1 in let no : ⊥ = omega arith in no)
+  well_shaped z (inr (s, inl a)) = absurd (let is = a.1 in let no : ⊥ = omega arith in no)
+  well_shaped z (inr (s, inr (l, d))) = record { sides = s; all_levels = l }
 
   -- any other number, handed on, is what a caller's own promise asks for, whatever the caller does past both tests
   pub misshapen : {answer : ℕ → Type 0} {done : Type 0} → (r ≡ 0 → ⊥) → ((n : ℕ) → r ≡ n → answer n) → Shaped levels w h (λ n. r ≡ n) (r ≡ 0) → Shaped levels w h answer done

@@ -27,13 +27,13 @@ module _ {kind : ℕ} where
   some (inr (inr e)) = rw e (lit≤ tt)
 
   -- so a length of 0 says that the kind is not known, and any other that it is, and how long its body is
-  pub told-unknown : {n : ℕ} → Unless (Known kind) (n ≡ 0) (n ≡ body_length kind) → n ≡ 0 → ¬ Known kind
-  told-unknown (inl a) z ok = a.0 ok
-  told-unknown (inr b) z ok = let is = b.1 in let one = some ok in omega arith
+  pub told_unknown : {n : ℕ} → Unless (Known kind) (n ≡ 0) (n ≡ body_length kind) → n ≡ 0 → ¬ Known kind
+  told_unknown (inl a) z ok = a.0 ok
+  told_unknown (inr b) z ok = let is = b.1 in let one = some ok in omega arith
 
-  pub told-known : {n : ℕ} → Unless (Known kind) (n ≡ 0) (n ≡ body_length kind) → ¬ (n ≡ 0) → Known kind × (n ≡ body_length kind)
-  told-known (inl a) more = absurd (more a.1)
-  told-known (inr b) more = b
+  pub told_known : {n : ℕ} → Unless (Known kind) (n ≡ 0) (n ≡ body_length kind) → ¬ (n ≡ 0) → Known kind × (n ≡ body_length kind)
+  told_known (inl a) more = absurd (more a.1)
+  told_known (inr b) more = b
 
 -- where a body ends, of a kind that is told
 pub ends_by : {kind k end : ℕ} (start : ℕ) → kind ≡ k → end ≡ start + body_length kind → end ≡ start + body_length k

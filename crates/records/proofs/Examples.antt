@@ -14,7 +14,7 @@ use Rattle.records.specs.declared.Record.TheVariants.{Picture, Pixel, End, Bad}
 use Rattle.records.specs.Records.{RecordIs}
 use Rattle.records.proofs.Bodies.{unknown}
 use Rattle.records.proofs.Outcomes.{one_record_at}
-use Rattle.records.proofs.Reading.{known_or_not, of-known, found}
+use Rattle.records.proofs.Reading.{known_or_not, of_known, found}
 
 -- a row of the table: an input, an offset, and the record there
 pub record Row : Type 0 where
@@ -61,7 +61,7 @@ table =
     ∷ []
 
 pub worked : EveryRow Holds table
-unfolding dec_le dec_lt ℕ_discrete known_or_not of-known found
+unfolding dec_le dec_lt ℕ_discrete known_or_not of_known found
 worked = hold table (refl, (refl, (refl, (refl, (refl, (refl, (refl, (refl, (refl, (refl, (refl, (refl, (refl, tt)))))))))))))
 
 -- ---- "program input above 32,768 bytes": so many zeros are looked at, and one byte more is refused, whatever

@@ -94,18 +94,18 @@ module _ (input : List ℕ) (at : ℕ) where
       ⊎ (((r ≡ Picture 64 (at + 1) (at + 1 + 4096)) × (at + 1 + 4096 ≤ length input))
       ⊎ ((r ≡ Pixel (picometres (four_bytes input (at + 1))) (at + 1 + 4)) × (at + 1 + 4 ≤ length input))))
 
-  of-kind : (r : Record) (kind : ℕ) → length input ≤ 32768 → Known kind → at + 1 + body_length kind ≤ length input
+  of_kind : (r : Record) (kind : ℕ) → length input ≤ 32768 → Known kind → at + 1 + body_length kind ≤ length input
       → answer_of r ≡ by_kind input kind (at + 1) (at + 1 + body_length kind) → Whole r
-  of-kind r kind few (inl e) there is = (few, inl (answered r (rw e at is), rw e at there))
-  of-kind r kind few (inr (inl e)) there is = (few, inr (inl (answered r (rw e at is), rw e at there)))
-  of-kind r kind few (inr (inr e)) there is = (few, inr (inr (answered r (rw e at is), rw e at there)))
+  of_kind r kind few (inl e) there is = (few, inl (answered r (rw e at is), rw e at there))
+  of_kind r kind few (inr (inl e)) there is = (few, inr (inl (answered r (rw e at is), rw e at there)))
+  of_kind r kind few (inr (inr e)) there is = (few, inr (inr (answered r (rw e at is), rw e at there)))
 
   whole : (r : Record) → which r ≤ 2 → RecordIs input at r → Whole r
   whole r good (inl a) = conflict (answered r a.1) (λ e. omega arith)
   whole r good (inr (few, inl a)) = conflict (answered r a.1) (λ e. omega arith)
   whole r good (inr (few, inr (in-it, inl a))) = conflict (answered r a.1) (λ e. omega arith)
   whole r good (inr (few, inr (in-it, inr (known, inl a)))) = conflict (answered r a.1) (λ e. omega arith)
-  whole r good (inr (few, inr (in-it, inr (known, inr (there, is))))) = of-kind r (byte input at) few known there is
+  whole r good (inr (few, inr (in-it, inr (known, inr (there, is))))) = of_kind r (byte input at) few known there is
 
   -- a picture's levels: from past the kind byte on, side·side of them, all in the input
   pub record Levels (side start end : ℕ) : Type 0 where
@@ -124,8 +124,8 @@ module _ (input : List ℕ) (at : ℕ) where
       record { starts = b; ends = rw s (omega arith); side-is = inr s; inside = omega arith; few = few }
   levels side start end (few, inr (inr (is, there))) = conflict is (λ e. omega arith)
 
-  pub picture-lies : (side start end : ℕ) → RecordIs input at (Picture side start end) → Levels side start end
-  picture-lies side start end is = levels side start end (whole (Picture side start end) (lit≤ tt) is)
+  pub picture_lies : (side start end : ℕ) → RecordIs input at (Picture side start end) → Levels side start end
+  picture_lies side start end is = levels side start end (whole (Picture side start end) (lit≤ tt) is)
 
   -- a pixel's size: its four bytes follow the kind byte, all in the input
   pub record Size (size : Picometres) (end : ℕ) : Type 0 where
@@ -134,36 +134,36 @@ module _ (input : List ℕ) (at : ℕ) where
     pub inside : end ≤ length input
     pub few : length input ≤ 32768
 
-  size-of : (size : Picometres) (end : ℕ) → Whole (Pixel size end) → Size size end
-  size-of size end (few, inl (is, there)) = conflict is (λ e. omega arith)
-  size-of size end (few, inr (inl (is, there))) = conflict is (λ e. omega arith)
-  size-of size end (few, inr (inr (is, there))) =
+  size_is : (size : Picometres) (end : ℕ) → Whole (Pixel size end) → Size size end
+  size_is size end (few, inl (is, there)) = conflict is (λ e. omega arith)
+  size_is size end (few, inr (inl (is, there))) = conflict is (λ e. omega arith)
+  size_is size end (few, inr (inr (is, there))) =
       let e = ap end_of is in
       record { size_is = ap size_of is; ends = omega arith; inside = omega arith; few = few }
 
-  pub pixel-lies : (size : Picometres) (end : ℕ) → RecordIs input at (Pixel size end) → Size size end
-  pixel-lies size end is = size-of size end (whole (Pixel size end) (lit≤ tt) is)
+  pub pixel_lies : (size : Picometres) (end : ℕ) → RecordIs input at (Pixel size end) → Size size end
+  pixel_lies size end is = size_is size end (whole (Pixel size end) (lit≤ tt) is)
 
   -- the record after a good one begins later, and no later than the input ends
-  pub moves-on : (r : Record) (next : ℕ) → RecordIs input at r → Follows r next → (at < next) × (next ≤ length input) × (length input ≤ 32768)
-  moves-on (Picture side start end) next is follows = let l = picture-lies side start end is in (omega arith, omega arith, l.few)
-  moves-on (Pixel size end) next is follows = let l = pixel-lies size end is in (omega arith, omega arith, l.few)
-  moves-on End next is follows = absurd follows
-  moves-on (Bad number offset) next is follows = absurd follows
+  pub moves_on : (r : Record) (next : ℕ) → RecordIs input at r → Follows r next → (at < next) × (next ≤ length input) × (length input ≤ 32768)
+  moves_on (Picture side start end) next is follows = let l = picture_lies side start end is in (omega arith, omega arith, l.few)
+  moves_on (Pixel size end) next is follows = let l = pixel_lies size end is in (omega arith, omega arith, l.few)
+  moves_on End next is follows = absurd follows
+  moves_on (Bad number offset) next is follows = absurd follows
 
   -- a good one is not bad
-  not-bad : (r : Record) → Whole r → which r ≤ 2
-  not-bad r (few, inl (is, there)) = let e = ap which is in omega arith
-  not-bad r (few, inr (inl (is, there))) = let e = ap which is in omega arith
-  not-bad r (few, inr (inr (is, there))) = let e = ap which is in omega arith
+  not_bad : (r : Record) → Whole r → which r ≤ 2
+  not_bad r (few, inl (is, there)) = let e = ap which is in omega arith
+  not_bad r (few, inr (inl (is, there))) = let e = ap which is in omega arith
+  not_bad r (few, inr (inr (is, there))) = let e = ap which is in omega arith
 
   -- a bad one has the number 18 and the offset 32,768, or the number 16 or 17 and its own offset
-  pub bad-is : (number offset : ℕ) → RecordIs input at (Bad number offset)
+  pub bad_is : (number offset : ℕ) → RecordIs input at (Bad number offset)
       → ((number ≡ 18) × (offset ≡ 32768)) ⊎ (((number ≡ 16) ⊎ (number ≡ 17)) × (offset ≡ at))
-  bad-is number offset (inl a) = inl (bad_by a.1)
-  bad-is number offset (inr (few, inl a)) = conflict (answered (Bad number offset) a.1) (λ e. omega arith)
-  bad-is number offset (inr (few, inr (in-it, inl a))) = let b = bad_by a.1 in inr (inl b.0, b.1)
-  bad-is number offset (inr (few, inr (in-it, inr (known, inl a)))) = let b = bad_by a.1 in inr (inr b.0, b.1)
-  bad-is number offset (inr (few, inr (in-it, inr (known, inr (there, is))))) =
-      let good = not-bad (Bad number offset) (of-kind (Bad number offset) (byte input at) few known there is) in
+  bad_is number offset (inl a) = inl (bad_by a.1)
+  bad_is number offset (inr (few, inl a)) = conflict (answered (Bad number offset) a.1) (λ e. omega arith)
+  bad_is number offset (inr (few, inr (in-it, inl a))) = let b = bad_by a.1 in inr (inl b.0, b.1)
+  bad_is number offset (inr (few, inr (in-it, inr (known, inl a)))) = let b = bad_by a.1 in inr (inr b.0, b.1)
+  bad_is number offset (inr (few, inr (in-it, inr (known, inr (there, is))))) =
+      let good = not_bad (Bad number offset) (of_kind (Bad number offset) (byte input at) few known there is) in
       absurd (let no : ⊥ = omega arith in no)

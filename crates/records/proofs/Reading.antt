@@ -15,7 +15,7 @@ use Rattle.records.specs.declared.Record.TheVariants.{Picture, Pixel, End, Bad}
 use Rattle.arithmetic.specs.Bytes.{byte, four_bytes}
 use Rattle.records.specs.Records.{Known, body_length, answer_of, by_kind, RecordIs, Follows, Last, Reading}
 use Rattle.records.proofs.Bodies.{unknown}
-use Rattle.records.proofs.Outcomes.{one_record_at, moves-on}
+use Rattle.records.proofs.Outcomes.{one_record_at, moves_on}
 
 -- ---- an input that is read from its first byte on: k good records lie before an offset, in that whatever is read from there on makes a
 -- reading of the whole input with k good records more
@@ -74,10 +74,10 @@ known_or_not kind = elim (ℕ_discrete kind 1) [
 
 module _ (input : List ℕ) where
   -- ---- there is a record at every offset
-  unfoldable pub of-known : (at kind : ℕ) → Known kind → (r : Record) × (answer_of r ≡ by_kind input kind (at + 1) (at + 1 + body_length kind))
-  of-known at kind (inl e) = (Picture 16 (at + 1) (at + 1 + 256), rw e refl)
-  of-known at kind (inr (inl e)) = (Picture 64 (at + 1) (at + 1 + 4096), rw e refl)
-  of-known at kind (inr (inr e)) = (Pixel (picometres (four_bytes input (at + 1))) (at + 1 + 4), rw e refl)
+  unfoldable pub of_known : (at kind : ℕ) → Known kind → (r : Record) × (answer_of r ≡ by_kind input kind (at + 1) (at + 1 + body_length kind))
+  of_known at kind (inl e) = (Picture 16 (at + 1) (at + 1 + 256), rw e refl)
+  of_known at kind (inr (inl e)) = (Picture 64 (at + 1) (at + 1 + 4096), rw e refl)
+  of_known at kind (inr (inr e)) = (Pixel (picometres (four_bytes input (at + 1))) (at + 1 + 4), rw e refl)
 
   unfoldable pub found : (at : ℕ) → (r : Record) × RecordIs input at r
   found at = elim (dec_le (length input) 32768) [
@@ -88,7 +88,7 @@ module _ (input : List ℕ) where
         | no f ↦ (Bad 16 at, goes_on few (goes_on in-it (stops f refl)))
         | yes k ↦ elim (dec_le (at + 1 + body_length (byte input at)) (length input)) [
           | no f ↦ (Bad 17 at, goes_on few (goes_on in-it (goes_on k (stops f refl))))
-          | yes there ↦ let w = of-known at (byte input at) k in (w.0, goes_on few (goes_on in-it (goes_on k (goes_on there w.1))))
+          | yes there ↦ let w = of_known at (byte input at) k in (w.0, goes_on few (goes_on in-it (goes_on k (goes_on there w.1))))
         ]
       ]
     ]
@@ -104,7 +104,7 @@ module _ (input : List ℕ) where
 
   more : (at : ℕ) → LaterEnds at → (r : Record) (next : ℕ) → RecordIs input at r → Follows r next → Ends at
   more at rest r next is follows =
-      let on = moves-on input at r next is follows in
+      let on = moves_on input at r next is follows in
       let e = rest next on.0 on.1 in
       (suc e.0, (e.1.0, (r, (is, (next, (follows, e.1.1))))))
 
@@ -124,13 +124,13 @@ module _ (input : List ℕ) where
   ends = from (length input) 0 (omega arith)
 
   -- in one way only: after as many good records, and at the same last one
-  pub one-reading : (k k' at : ℕ) (last last' : Record) → Reading input k at last → Reading input k' at last' → (k ≡ k') × (last ≡ last')
-  one-reading zero zero at last last' a b = (refl, one_record_at input at last last' a.0 b.0)
-  one-reading zero (suc k') at last last' a b =
+  pub one_reading : (k k' at : ℕ) (last last' : Record) → Reading input k at last → Reading input k' at last' → (k ≡ k') × (last ≡ last')
+  one_reading zero zero at last last' a b = (refl, one_record_at input at last last' a.0 b.0)
+  one_reading zero (suc k') at last last' a b =
       absurd (not_both b.0 last b.1.1.0 (one_record_at input at b.0 last b.1.0 a.0) b.1.1.1.0 a.1)
-  one-reading (suc k) zero at last last' a b =
+  one_reading (suc k) zero at last last' a b =
       absurd (not_both a.0 last' a.1.1.0 (one_record_at input at a.0 last' a.1.0 b.0) a.1.1.1.0 b.1)
-  one-reading (suc k) (suc k') at last last' a b =
+  one_reading (suc k) (suc k') at last last' a b =
       let same = one_follows a.0 b.0 a.1.1.0 b.1.1.0 (one_record_at input at a.0 b.0 a.1.0 b.1.0) a.1.1.1.0 b.1.1.1.0 in
-      let rest = one-reading k k' b.1.1.0 last last' (subst (λ (n : ℕ). Reading input k n last) same a.1.1.1.1) b.1.1.1.1 in
+      let rest = one_reading k k' b.1.1.0 last last' (subst (λ (n : ℕ). Reading input k n last) same a.1.1.1.1) b.1.1.1.1 in
       (ap suc rest.0, rest.1)

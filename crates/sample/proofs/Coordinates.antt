@@ -93,18 +93,18 @@ remainder_natural (pos n) some = ap nat_of (remainder_of n)
 remainder_natural (negsuc n) some = absurd (let no : ⊥ = omega arith in no)
 
 module _ (x : Sixteenths) (c : Coordinate) (at : Located x c) where
-  pub is-pixel : c.pixel ≡ nat_of (pixel x)
-  is-pixel = at.pixel ∙ sym (pixel_natural x.0)
+  pub is_pixel : c.pixel ≡ nat_of (pixel x)
+  is_pixel = at.pixel ∙ sym (pixel_natural x.0)
 
   module _ (side : ℕ) where
     -- where its pixel has not one before it and two after it, it is not inside
     pub outside : (¬ Surrounded side c.pixel) → ¬ Inside side (pixel x)
-    outside not-surrounded h = not-surrounded (rw is-pixel (inside_surrounded side (pixel x) h))
+    outside not-surrounded h = not-surrounded (rw is_pixel (inside_surrounded side (pixel x) h))
 
     -- where it has, it is, and the remainder is the definition's
     module _ (s : Surrounded side c.pixel) where
       abbrev as-defined : Surrounded side (nat_of (pixel x))
-      as-defined = rw is-pixel at s
+      as-defined = rw is_pixel at s
 
       pub is-inside : Inside side (pixel x)
       is-inside = surrounded_inside side (pixel x) as-defined

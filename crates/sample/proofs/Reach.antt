@@ -33,21 +33,21 @@ record Weighted (low high below above : ℕ) : Type 0 where
 
 -- one of them under its weight, and the first n
 module _ {low high below above : ℕ} (weighted : Weighted low high below above) (k : ℕ) (small : k < 16) where
-  most-below : sum 4 (share low high k) ≤ below
+  most_below : sum 4 (share low high k) ≤ below
   unfolding reach
-  most-below = leb→le _ _ (each (λ k. leb (reach low high k) below) 16 weighted.beneath k small)
+  most_below = leb→le _ _ (each (λ k. leb (reach low high k) below) 16 weighted.beneath k small)
 
-  most-above : sum 4 (share high low k) ≤ above
+  most_above : sum 4 (share high low k) ≤ above
   unfolding reach
-  most-above = leb→le _ _ (each (λ k. leb (reach high low k) above) 16 weighted.over k small)
+  most_above = leb→le _ _ (each (λ k. leb (reach high low k) above) 16 weighted.over k small)
 
-  one-weighted : (t : ℕ) (z : ℤ) → t < 4 → Ranges low high z → Ranges below above (weight k t *ℤ z)
-  one-weighted t z in-it near =
-      widened (le_trans (sum_term (share low high k) in-it) most-below) (le_trans (sum_term (share high low k) in-it) most-above) (of_product (weight k t) z near)
+  one_weighted : (t : ℕ) (z : ℤ) → t < 4 → Ranges low high z → Ranges below above (weight k t *ℤ z)
+  one_weighted t z in-it near =
+      widened (le_trans (sum_term (share low high k) in-it) most_below) (le_trans (sum_term (share high low k) in-it) most_above) (of_product (weight k t) z near)
 
-  some-weighted : (n : ℕ) (z : ℕ → ℤ) → n ≤ 4 → ((t : ℕ) → Ranges low high (z t)) → Ranges below above (sumℤ n (λ t. weight k t *ℤ z t))
-  some-weighted n z few near =
-      widened (le_trans (sum_part (share low high k) few) most-below) (le_trans (sum_part (share high low k) few) most-above)
+  some_weighted : (n : ℕ) (z : ℕ → ℤ) → n ≤ 4 → ((t : ℕ) → Ranges low high (z t)) → Ranges below above (sumℤ n (λ t. weight k t *ℤ z t))
+  some_weighted n z few near =
+      widened (le_trans (sum_part (share low high k) few) most_below) (le_trans (sum_part (share high low k) few) most_above)
       (of_sums n (share low high k) (share high low k) (λ t. weight k t *ℤ z t) (λ t l. of_product (weight k t) (z t) (near t)))
 
 -- levels: the positive weights of a remainder are at most 9,216 together, and the negative ones 1,024, each 255 times
@@ -67,16 +67,16 @@ abbrev pub SampleRange : ℤ → Type 0
 SampleRange z = Ranges 4812963840 21925724160 z
 
 module _ (levels : List ℕ) (bytes : AtMost 255 levels) where
-  level-range : (p : ℕ) → Ranges 0 255 (pos (get_or levels p 0))
-  level-range p = widened (omega arith) (bytes p) (of_natural (get_or levels p 0))
+  level_range : (p : ℕ) → Ranges 0 255 (pos (get_or levels p 0))
+  level_range p = widened (omega arith) (bytes p) (of_natural (get_or levels p 0))
 
   -- a row's terms, and its sums
   module _ (at k : ℕ) (small : k < 16) where
     column-term-range : (t : ℕ) → t < 4 → RowRange (column_term levels at k t)
-    column-term-range t in-it = one-weighted of_levels k small t (pos (get_or levels (at + t) 0)) in-it (level-range (at + t))
+    column-term-range t in-it = one_weighted of_levels k small t (pos (get_or levels (at + t) 0)) in-it (level_range (at + t))
 
     columns-range : (n : ℕ) → n ≤ 4 → RowRange (sumℤ n (column_term levels at k))
-    columns-range n few = some-weighted of_levels k small n (λ t. pos (get_or levels (at + t) 0)) few (λ t. level-range (at + t))
+    columns-range n few = some_weighted of_levels k small n (λ t. pos (get_or levels (at + t) 0)) few (λ t. level_range (at + t))
 
     row-range : RowRange (row_sum levels at k)
     unfolding row_sum
@@ -98,10 +98,10 @@ module _ (levels : List ℕ) (bytes : AtMost 255 levels) where
     near r = row-range (row_start w i j r) across small-across
 
     row-term-range : (r : ℕ) → r < 4 → SampleRange (row_term levels w i j across down r)
-    row-term-range r in-it = one-weighted of_rows down small-down r (row r) in-it (near r)
+    row-term-range r in-it = one_weighted of_rows down small-down r (row r) in-it (near r)
 
     pub rows-range : (n : ℕ) → n ≤ 4 → SampleRange (sumℤ n (row_term levels w i j across down))
-    rows-range n few = some-weighted of_rows down small-down n row few near
+    rows-range n few = some_weighted of_rows down small-down n row few near
 
     pub row_fits : (r : ℕ) → r < 4 → SFits w64 (row_term levels w i j across down r)
     row_fits r in-it = in_width w64 (row_term levels w i j across down r) (row-term-range r in-it) (lit< tt) (lit< tt)

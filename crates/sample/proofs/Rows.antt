@@ -26,15 +26,15 @@ module _ (levels : List ℕ) (w i j across down : ℕ) where
       ap (λ (p : ℕ). weight down r *ℤ (weight across t *ℤ pos (get_or levels p 0))) (omega arith)
 
   -- so that the weight of a row stands before its sum
-  one-row : (r : ℕ) → sumℤ 4 (term r) ≡ row_term levels w i j across down r
+  one_row : (r : ℕ) → sumℤ 4 (term r) ≡ row_term levels w i j across down r
   unfolding row_sum
-  one-row r =
+  one_row r =
       let of_row = column_term levels (row_start w i j r) across in
       sumℤ_same 4 (term r) (λ t. weight down r *ℤ of_row t) (λ t l. regrouped r t) ∙ sumℤ_times (weight down r) 4 of_row
 
   pub by_rows : sample_of levels w i j across down ≡ sumℤ 4 (row_term levels w i j across down)
   unfolding sample_of
-  by_rows = sumℤ_same 4 (λ r. sumℤ 4 (term r)) (row_term levels w i j across down) (λ r l. one-row r)
+  by_rows = sumℤ_same 4 (λ r. sumℤ 4 (term r)) (row_term levels w i j across down) (λ r l. one_row r)
 
 -- four terms are all of a row's, and of a sample's
 pub row_done : (levels : List ℕ) (at k : ℕ) {n : ℕ} {z : ℤ} → n ≤ 4 → 4 ≤ n → z ≡ sumℤ n (column_term levels at k) → z ≡ row_sum levels at k
@@ -59,8 +59,8 @@ module _ {w h i j : ℕ} (column : Surrounded w i) (row : Surrounded h j) (r : �
   row_ends : (j - 1 + r) * w + w ≤ w * h
   row_ends = let here : j - 1 + r < h = omega (arith, row) in row_end w h (j - 1 + r) here
 
-  pub four-in : row_start w i j r + 4 ≤ w * h
-  four-in = omega (arith, row_ends, column)
+  pub four_in : row_start w i j r + 4 ≤ w * h
+  four_in = omega (arith, row_ends, column)
 
 -- the same of the levels lent, and that all of it is small
 pub record RowIn (levels : List ℕ) (w i j r : ℕ) : Type 0 where
@@ -71,7 +71,7 @@ pub record RowIn (levels : List ℕ) (w i j r : ℕ) : Type 0 where
 pub row_in : {levels : List ℕ} {w i j : ℕ} → Around levels w i j → (r : ℕ) → r < 4 → RowIn levels w i j r
 row_in a r in-it =
     record {
-      ends = omega (arith, four-in a.column a.row r in-it, a.all_levels);
+      ends = omega (arith, four_in a.column a.row r in-it, a.all_levels);
       few = omega (arith, a.all_levels, a.few);
       narrow = omega (arith, row_ends a.column a.row r in-it, a.few);
     }

@@ -19,27 +19,27 @@ use Rattle.sample.specs.Cubic.{weight, sample_of, pixel, remainder, refused, Sam
 use Rattle.sample.specs.Asked.{Surrounded, column_term, row_sum, row_start, row_term}
 use Rattle.sample.proofs.Weights.{weights_add}
 use Rattle.sample.proofs.Reach.{SampleRange, rows-range}
-use Rattle.sample.proofs.Rows.{by_rows, four-in}
+use Rattle.sample.proofs.Rows.{by_rows, four_in}
 use Rattle.sample.proofs.Coordinates.{place_is}
 use Rattle.sample.proofs.Outcomes.{when_done}
 
 -- ---- a picture of one level
 module _ (levels : List ℕ) (w h i j across down v : ℕ) (column : Surrounded w i) (row : Surrounded h j) (same : (p : ℕ) → p < w * h → get_or levels p 0 ≡ v) where
   -- each of the 4×4 levels is in the picture, and so is that level
-  level-is : (r t : ℕ) → r < 4 → t < 4 → get_or levels (row_start w i j r + t) 0 ≡ v
-  level-is r t in-r in-t = same (row_start w i j r + t) (omega (arith, four-in column row r in-r))
+  level_is : (r t : ℕ) → r < 4 → t < 4 → get_or levels (row_start w i j r + t) 0 ≡ v
+  level_is r t in-r in-t = same (row_start w i j r + t) (omega (arith, four_in column row r in-r))
 
   -- the weights add to 8,192 across, and so each row adds to 8,192 times the level
   row_is : (r : ℕ) → r < 4 → row_sum levels (row_start w i j r) across ≡ pos (8192 * v)
   unfolding row_sum
   row_is r in-r =
       sumℤ_same 4 (column_term levels (row_start w i j r) across) (λ t. weight across t *ℤ pos v)
-      (λ t in-t. ap (λ (l : ℕ). weight across t *ℤ pos l) (level-is r t in-r in-t))
+      (λ t in-t. ap (λ (l : ℕ). weight across t *ℤ pos l) (level_is r t in-r in-t))
       ∙ sumℤ_by (pos v) 4 (weight across) ∙ ap (λ (z : ℤ). z *ℤ pos v) (weights_add across)
 
   -- and down
-  one-level : sample_of levels w i j across down ≡ pos (67108864 * v)
-  one-level =
+  one_level : sample_of levels w i j across down ≡ pos (67108864 * v)
+  one_level =
       by_rows levels w i j across down
       ∙ sumℤ_same 4 (row_term levels w i j across down) (λ r. weight down r *ℤ pos (8192 * v)) (λ r in-r. ap (λ (z : ℤ). weight down r *ℤ z) (row_is r in-r))
       ∙ sumℤ_by (pos (8192 * v)) 4 (weight down) ∙ ap (λ (z : ℤ). z *ℤ pos (8192 * v)) (weights_add down) ∙ ap pos (omega arith)
@@ -67,14 +67,14 @@ on_pixel levels w i j left above =
 -- ---- the theorems
 module _ (levels : List ℕ) (w h : ℕ) (x y : Sixteenths) (r : Sampled) (is : SampleIs levels w h x y r) where
   -- the weights of each remainder add to 8,192, so a picture of one level samples to that level everywhere
-  pub one-level-everywhere : (v : ℕ) → ((p : ℕ) → p < w * h → get_or levels p 0 ≡ v) → r.number ≡ 0 → r.value ≡ pos (67108864 * v)
-  one-level-everywhere v same done =
+  pub one_level_everywhere : (v : ℕ) → ((p : ℕ) → p < w * h → get_or levels p 0 ≡ v) → r.number ≡ 0 → r.value ≡ pos (67108864 * v)
+  one_level_everywhere v same done =
       let d = when_done levels w h x y r done is in
-      d.is ∙ one-level levels w h (nat_of (pixel x)) (nat_of (pixel y)) (remainder x) (remainder y) v d.column d.row same
+      d.is ∙ one_level levels w h (nat_of (pixel x)) (nat_of (pixel y)) (remainder x) (remainder y) v d.column d.row same
 
   -- "At k = 0 both ways it is the pixel's own level, exactly."
-  pub own-level : remainder x ≡ 0 → remainder y ≡ 0 → r.number ≡ 0 → r.value ≡ pos (67108864 * get_or levels (nat_of (pixel y) * w + nat_of (pixel x)) 0)
-  own-level across down done =
+  pub own_level : remainder x ≡ 0 → remainder y ≡ 0 → r.number ≡ 0 → r.value ≡ pos (67108864 * get_or levels (nat_of (pixel y) * w + nat_of (pixel x)) 0)
+  own_level across down done =
       let d = when_done levels w h x y r done is in
       d.is ∙ rw (across, down) (on_pixel levels w (nat_of (pixel x)) (nat_of (pixel y)) d.column.before d.row.before)
 

@@ -17,8 +17,8 @@ use Rattle.scan.proofs.SixRows.{count_set}
 use Rattle.scan.specs.Held.{Held, pass_three_row, step, after, given, no_row}
 use Rattle.scan.specs.Scan.{scanned, at_front, due, rows_given, rows_held, RowsIs, end_given, EndIs}
 use Rattle.scan.specs.Asked.{long, Ready, Coming}
-use Rattle.scan.proofs.Shown.{long-there, long-before, long-past}
-use Rattle.scan.proofs.Turns.{length-pass-three, ready-next, held_next, length-next}
+use Rattle.scan.proofs.Shown.{long_there, long_before, long_past}
+use Rattle.scan.proofs.Turns.{length_pass_three, ready-next, held_next, length-next}
 
 -- a call that is refused
 pub refused_is : {n number rows : ℕ} {held output : List ℕ} → (number ≡ n) × (rows ≡ 0)
@@ -56,32 +56,32 @@ module _ (w h k : ℕ) (rows : List ℕ) (f : ℕ → List ℕ) (ready : Ready w
             ∙ ap (λ (held : Held). step held (f n)) before.1,
       )
 
-  pub length-later : (n : ℕ) → Fitting w h k f n → k + n ≤ 70000 → length (later w h k rows f n) ≡ length rows
+  pub length_later : (n : ℕ) → Fitting w h k f n → k + n ≤ 70000 → length (later w h k rows f n) ≡ length rows
   unfolding later
-  length-later zero fit few = refl
-  length-later (suc n) fit few =
+  length_later zero fit few = refl
+  length_later (suc n) fit few =
       let before = so_far n (fewer n fit) (omega arith) in
       let here = fit n (omega arith) in
-      length-next w h (k + n) (later w h k rows f n) (f n) before.0 here.1 here.0 ∙ length-later n (fewer n fit) (omega arith)
+      length-next w h (k + n) (later w h k rows f n) (f n) before.0 here.1 here.0 ∙ length_later n (fewer n fit) (omega arith)
 
   -- how much they give
-  pub length-given : (n : ℕ) → Fitting w h k f n → ((i : ℕ) → i < n → k + i < h + 3) → k + n ≤ 70000
+  pub length_given : (n : ℕ) → Fitting w h k f n → ((i : ℕ) → i < n → k + i < h + 3) → k + n ≤ 70000
       → length (given start f n) ≡ due k n * w
   unfolding given joined
-  length-given zero fit inside few = let none : due k 0 ≡ 0 = omega arith in rw none (sym (zero-mul w))
-  length-given (suc n) fit inside few =
-      let less = length-given n (fewer n fit) (λ i p. inside i (omega arith)) (omega arith) in
+  length_given zero fit inside few = let none : due k 0 ≡ 0 = omega arith in rw none (sym (zero-mul w))
+  length_given (suc n) fit inside few =
+      let less = length_given n (fewer n fit) (λ i p. inside i (omega arith)) (omega arith) in
       let before = so_far n (fewer n fit) (omega arith) in
       let more =
       ap (λ (held : Held). length (pass_three_row held (f n))) (sym before.1)
-      ∙ length-pass-three w h (k + n) (later w h k rows f n) (f n) before.0 in
+      ∙ length_pass_three w h (k + n) (later w h k rows f n) (f n) before.0 in
       length-append (given start f n) (pass_three_row (after start f n) (f n)) ∙ elim (dec_le 3 (k + n)) [
         | yes p ↦
-            let l = long-there h (k + n) 3 w (p, omega (arith, inside n (omega arith))) in
+            let l = long_there h (k + n) 3 w (p, omega (arith, inside n (omega arith))) in
             let d : due k (suc n) ≡ due k n + 1 = omega arith in
             rw d (omega (arith, less, more, l))
         | no p ↦
-            let l = long-before h (k + n) 3 w (omega arith) in
+            let l = long_before h (k + n) 3 w (omega arith) in
             let d : due k (suc n) ≡ due k n = omega arith in
             rw d (omega (arith, less, more, l))
       ]
@@ -101,9 +101,9 @@ module _ (held : List ℕ) (begun : Begun held) where
   abbrev rows : List ℕ
   rows = take (6147 - 3) (drop 3 held)
 
-  pub is-ready : k ≤ 65535 → Ready w h k rows
+  pub is_ready : k ≤ 65535 → Ready w h k rows
   unfolding rows_of
-  is-ready few = record {
+  is_ready few = record {
     width = begun.width;
     height = begun.height.1;
     few = omega arith;
@@ -121,7 +121,7 @@ module _ (held : List ℕ) (begun : Begun held) where
     levels_are = let e = div-add-mod' (length levels) w in omega (arith, e, whole)
 
     row-there : (i : ℕ) → i < n → long w h (k + i) 0 ≡ w
-    row-there i p = long-there h (k + i) 0 w (zero-le, omega arith)
+    row-there i p = long_there h (k + i) 0 w (zero-le, omega arith)
 
     pub rows_fit : Fitting w h k (row_at w levels) n
     rows_fit i p =
@@ -131,7 +131,7 @@ module _ (held : List ℕ) (begun : Begun held) where
     pub rows-due : length (given (held_in w h k rows) (row_at w levels) n) ≡ due k n * w
     rows-due =
         let height = begun.height.1 in
-        length-given w h k rows (row_at w levels) (is-ready few) n rows_fit (λ i p. omega arith) (omega arith)
+        length_given w h k rows (row_at w levels) (is_ready few) n rows_fit (λ i p. omega arith) (omega arith)
 
     pub is-coming : due k n * w ≤ length output → Coming w h k w n rows levels output
     is-coming room =
@@ -173,31 +173,31 @@ module _ (held : List ℕ) (begun : Begun held) (last : came_of held ≡ height_
   abbrev six : List ℕ
   six = take (6147 - 3) (drop 3 held)
 
-  past-last : (i : ℕ) → long v g (j + i) 0 ≡ 0
-  past-last i = long-past g (j + i) 0 v zero-le (omega arith)
+  past_last : (i : ℕ) → long v g (j + i) 0 ≡ 0
+  past_last i = long_past g (j + i) 0 v zero-le (omega arith)
 
-  pub end-ready : Ready v g j six
-  end-ready = is-ready held begun (let height = begun.height.1 in omega (arith, height, last))
+  pub end_ready : Ready v g j six
+  end_ready = is_ready held begun (let height = begun.height.1 in omega (arith, height, last))
 
-  end-fit : Fitting v g j (row_at 0 []) 3
-  end-fit i p = (ap length (no_row_at i) ∙ sym (past-last i), λ z. rw (no_row_at i) zero-le)
+  end_fit : Fitting v g j (row_at 0 []) 3
+  end_fit i p = (ap length (no_row_at i) ∙ sym (past_last i), λ z. rw (no_row_at i) zero-le)
 
-  end-due : length (given (held_in v g j six) (row_at 0 []) 3) ≡ min 3 g * v
-  end-due =
+  end_due : length (given (held_in v g j six) (row_at 0 []) 3) ≡ min 3 g * v
+  end_due =
       let height = begun.height.1 in
       let d : due j 3 ≡ min 3 g = omega (arith, last) in
-      length-given v g j six (row_at 0 []) end-ready 3 end-fit (λ i p. omega (arith, p, last)) (omega (arith, height, last))
+      length_given v g j six (row_at 0 []) end_ready 3 end_fit (λ i p. omega (arith, p, last)) (omega (arith, height, last))
       ∙ ap (λ (z : ℕ). z * v) d
 
-  pub end-long : length (end_given held) ≡ min 3 g * v
+  pub end_long : length (end_given held) ≡ min 3 g * v
   unfolding end_given rows_of
-  end-long = ap (λ (f : ℕ → List ℕ). length (given (held_in v g j six) f 3)) (sym no_rows) ∙ end-due
+  end_long = ap (λ (f : ℕ → List ℕ). length (given (held_in v g j six) f 3)) (sym no_rows) ∙ end_due
 
   module _ (output : List ℕ) (room : min 3 g * v ≤ length output) where
     pub end-coming : Coming v g j 0 3 six [] output
     end-coming =
         let height = begun.height.1 in
-        record { few = omega (arith, height, last); rows_are = λ i p. past-last i; levels_are = refl; room = rw end-due room }
+        record { few = omega (arith, height, last); rows_are = λ i p. past_last i; levels_are = refl; room = rw end_due room }
 
     -- a call that is done
     pub end-done : (rows' left out : List ℕ) (r : ℕ) → length rows' ≡ 6144 → r ≡ min 3 g

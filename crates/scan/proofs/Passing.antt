@@ -12,9 +12,9 @@ use Rattle.scan.specs.Ring.{last_two, held_in, replaced, next}
 use Rattle.scan.proofs.SixRows.{length_two_of}
 use Rattle.scan.specs.Held.{Held, completed, pass_one_row, pass_two_row, pass_three_row}
 use Rattle.scan.specs.Asked.{long, Below, Ready}
-use Rattle.scan.proofs.Shown.{none-or-long}
+use Rattle.scan.proofs.Shown.{none_or_long}
 use Rattle.scan.proofs.Twos.{length-replaced}
-use Rattle.scan.proofs.Turns.{length-pass-one, length-pass-two, most-pass-one, most-pass-two}
+use Rattle.scan.proofs.Turns.{length_pass_one, length_pass_two, most-pass-one, most-pass-two}
 
 -- what was written to the front of x
 pub front_is : (n : ℕ) (x row rest : List ℕ) → x ≡ row ++ rest → length row ≡ n → take n x ≡ row
@@ -30,11 +30,11 @@ module _ {w h k : ℕ} {rows levels : List ℕ} (arriving : Arriving w h k rows 
   abbrev before : Held
   before = held_in w h k rows
 
-  pub length-pass-one-row : length (pass_one_row before levels) ≡ long w h k 1
-  length-pass-one-row = length-pass-one w h k rows levels arriving.ready
+  pub length_pass_one_row : length (pass_one_row before levels) ≡ long w h k 1
+  length_pass_one_row = length_pass_one w h k rows levels arriving.ready
 
-  pub length-pass-two-row : length (pass_two_row before levels) ≡ long w h k 2
-  length-pass-two-row = length-pass-two w h k rows levels arriving.ready
+  pub length_pass_two_row : length (pass_two_row before levels) ≡ long w h k 2
+  length_pass_two_row = length_pass_two w h k rows levels arriving.ready
 
   -- ---- what each pass asks for
   module _ (pass late : ℕ) (few : pass ≤ 2) (soon : late ≤ 3) (row : List ℕ) where
@@ -50,24 +50,24 @@ module _ {w h k : ℕ} {rows levels : List ℕ} (arriving : Arriving w h k rows 
       small_row = small_row;
     })
 
-  pub below-levels : (two part : List ℕ) → two ≡ two_of w rows 0 → part ≡ levels → Below w k 1 two part
-  below-levels =
+  pub below_levels : (two part : List ℕ) → two ≡ two_of w rows 0 → part ≡ levels → Below w k 1 two part
+  below_levels =
       below 0 1 (omega arith) (omega arith) levels
-      (λ i. omega (arith, arriving.ready.ranges.levels i)) (rw arriving.long_as (none-or-long h k 0 w))
+      (λ i. omega (arith, arriving.ready.ranges.levels i)) (rw arriving.long_as (none_or_long h k 0 w))
       (λ i. omega (arith, arriving.bytes i))
 
-  pub below-pass-one : (two part : List ℕ) → two ≡ two_of w rows 1 → part ≡ pass_one_row before levels → Below w k 2 two part
-  below-pass-one =
+  pub below_pass_one : (two part : List ℕ) → two ≡ two_of w rows 1 → part ≡ pass_one_row before levels → Below w k 2 two part
+  below_pass_one =
       below 1 2 (omega arith) (omega arith) (pass_one_row before levels)
       (λ i. omega (arith, arriving.ready.ranges.halves i))
-      (rw length-pass-one-row (none-or-long h k 1 w))
+      (rw length_pass_one_row (none_or_long h k 1 w))
       (λ i. omega (arith, most-pass-one w h k rows levels arriving.ready arriving.bytes i))
 
-  pub below-pass-two : (two part : List ℕ) → two ≡ two_of w rows 2 → part ≡ pass_two_row before levels → Below w k 3 two part
-  below-pass-two =
+  pub below_pass_two : (two part : List ℕ) → two ≡ two_of w rows 2 → part ≡ pass_two_row before levels → Below w k 3 two part
+  below_pass_two =
       below 2 3 (omega arith) (omega arith) (pass_two_row before levels)
       arriving.ready.ranges.quarters
-      (rw length-pass-two-row (none-or-long h k 2 w))
+      (rw length_pass_two_row (none_or_long h k 2 w))
       (most-pass-two w h k rows levels arriving.ready arriving.bytes)
 
   -- ---- what each pass gives
@@ -87,13 +87,13 @@ module _ {w h k : ℕ} {rows levels : List ℕ} (arriving : Arriving w h k rows 
     unfolding pass_three_row held_in
     pass-three-is-row e f is = is ∙ rw (e, f)
 
-  pub two-are : (pass : ℕ) (two part x row : List ℕ) → two ≡ two_of w rows pass → part ≡ row → x ≡ replaced w k two part
+  pub two_are : (pass : ℕ) (two part x row : List ℕ) → two ≡ two_of w rows pass → part ≡ row → x ≡ replaced w k two part
       → x ≡ replaced w k (two_of w rows pass) row
-  two-are pass two part x row e f is = is ∙ rw (e, f)
+  two_are pass two part x row e f is = is ∙ rw (e, f)
 
-  pub length-two-are : (pass late : ℕ) → pass ≤ 2 → (x row : List ℕ) → length row ≡ long w h k late
+  pub length_two_are : (pass late : ℕ) → pass ≤ 2 → (x row : List ℕ) → length row ≡ long w h k late
       → x ≡ replaced w k (two_of w rows pass) row → length x ≡ w + w
-  length-two-are pass late few x row row_long is =
+  length_two_are pass late few x row row_long is =
       ap length is ∙ length-replaced w h k late (two_of w rows pass) row (length_two_of w pass rows arriving.ready.room few) row_long
 
   pub rows_are : (x a b c : List ℕ) → x ≡ a ++ b ++ c ++ drop (6 * w) rows → a ≡ replaced w k (two_of w rows 0) levels

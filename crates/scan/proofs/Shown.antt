@@ -24,31 +24,31 @@ there_or_not h k late = elim (dec_le late k) [
 ]
 
 module _ (h k late : ℕ) where
-  pub long-there : (w : ℕ) → There h k late → long w h k late ≡ w
+  pub long_there : (w : ℕ) → There h k late → long w h k late ≡ w
   unfolding long
-  long-there w t = rw (le-leb late k t.0, lt-ltb (k - late) h t.1)
+  long_there w t = rw (le-leb late k t.0, lt-ltb (k - late) h t.1)
 
-  pub long-before : (w : ℕ) → k < late → long w h k late ≡ 0
+  pub long_before : (w : ℕ) → k < late → long w h k late ≡ 0
   unfolding long
-  long-before w p = rw (lt-leb late k p)
+  long_before w p = rw (lt-leb late k p)
 
-  pub long-past : (w : ℕ) → late ≤ k → h ≤ k - late → long w h k late ≡ 0
+  pub long_past : (w : ℕ) → late ≤ k → h ≤ k - late → long w h k late ≡ 0
   unfolding long
-  long-past w p q = rw (le-leb late k p, le-ltb (k - late) h q)
+  long_past w p q = rw (le-leb late k p, le-ltb (k - late) h q)
 
-  pub long-not : (w : ℕ) → ¬ (There h k late) → long w h k late ≡ 0
-  long-not w n = elim (dec_le late k) [
-    | yes p ↦ elim (dec_lt (k - late) h) [ yes q ↦ absurd (n (p, q)) | no q ↦ long-past w p (omega arith) ]
-    | no p ↦ long-before w (omega arith)
+  pub long_not : (w : ℕ) → ¬ (There h k late) → long w h k late ≡ 0
+  long_not w n = elim (dec_le late k) [
+    | yes p ↦ elim (dec_lt (k - late) h) [ yes q ↦ absurd (n (p, q)) | no q ↦ long_past w p (omega arith) ]
+    | no p ↦ long_before w (omega arith)
   ]
 
-  pub shown-there : (row : List ℕ) → There h k late → shown h k late row ≡ row
+  pub shown_there : (row : List ℕ) → There h k late → shown h k late row ≡ row
   unfolding shown
-  shown-there row t = rw (le-leb late k t.0, lt-ltb (k - late) h t.1)
+  shown_there row t = rw (le-leb late k t.0, lt-ltb (k - late) h t.1)
 
-  pub shown-not : (row : List ℕ) → ¬ (There h k late) → shown h k late row ≡ []
+  pub shown_not : (row : List ℕ) → ¬ (There h k late) → shown h k late row ≡ []
   unfolding shown
-  shown-not row n = elim (dec_le late k) [
+  shown_not row n = elim (dec_le late k) [
     | yes p ↦ elim (dec_lt (k - late) h) [
       | yes q ↦ absurd (n (p, q))
       | no q ↦ rw (le-leb late k p, le-ltb (k - late) h (let g : h ≤ k - late = omega arith in g))
@@ -57,32 +57,32 @@ module _ (h k late : ℕ) where
   ]
 
   -- it has w numbers or none
-  pub none-or-long : (w : ℕ) → (long w h k late ≡ 0) ⊎ (long w h k late ≡ w)
-  none-or-long w = elim (there_or_not h k late) [ inl t ↦ inr (long-there w t) | inr n ↦ inl (long-not w n) ]
+  pub none_or_long : (w : ℕ) → (long w h k late ≡ 0) ⊎ (long w h k late ≡ w)
+  none_or_long w = elim (there_or_not h k late) [ inl t ↦ inr (long_there w t) | inr n ↦ inl (long_not w n) ]
 
-  pub long-most : (w : ℕ) → long w h k late ≤ w
-  long-most w = elim (none-or-long w) [ inl e ↦ omega arith | inr e ↦ omega arith ]
+  pub long_most : (w : ℕ) → long w h k late ≤ w
+  long_most w = elim (none_or_long w) [ inl e ↦ omega arith | inr e ↦ omega arith ]
 
-  pub length-shown : (w : ℕ) (row : List ℕ) → length row ≡ w → length (shown h k late row) ≡ long w h k late
-  length-shown w row e = elim (there_or_not h k late) [
-    | inl t ↦ rw (shown-there row t, long-there w t) e
-    | inr n ↦ rw (shown-not row n, long-not w n)
+  pub length_shown : (w : ℕ) (row : List ℕ) → length row ≡ w → length (shown h k late row) ≡ long w h k late
+  length_shown w row e = elim (there_or_not h k late) [
+    | inl t ↦ rw (shown_there row t, long_there w t) e
+    | inr n ↦ rw (shown_not row n, long_not w n)
   ]
 
-  pub most-shown : (b : ℕ) (row : List ℕ) → AtMost b row → AtMost b (shown h k late row)
-  most-shown b row p i = elim (there_or_not h k late) [ inl t ↦ rw (shown-there row t) (p i) | inr n ↦ rw (shown-not row n) zero-le ]
+  pub most_shown : (b : ℕ) (row : List ℕ) → AtMost b row → AtMost b (shown h k late row)
+  most_shown b row p i = elim (there_or_not h k late) [ inl t ↦ rw (shown_there row t) (p i) | inr n ↦ rw (shown_not row n) zero-le ]
 
   -- the part of the memory that the code lends: row i of it, if it is there
-  pub shown-part : (w i at n : ℕ) (l : List ℕ) → at ≡ i * w → n ≡ long w h k late
+  pub shown_part : (w i at n : ℕ) (l : List ℕ) → at ≡ i * w → n ≡ long w h k late
       → take (at + n - at) (drop at l) ≡ shown h k late (row_at w l i)
-  shown-part w i at n l e f = elim (there_or_not h k late) [
-    | inl t ↦ part_row w i at (at + n) l e (rw (f, long-there w t)) ∙ sym (shown-there (row_at w l i) t)
-    | inr out ↦ let none : at + n - at ≡ 0 = omega (arith, f, long-not w out) in rw (none, shown-not (row_at w l i) out)
+  shown_part w i at n l e f = elim (there_or_not h k late) [
+    | inl t ↦ part_row w i at (at + n) l e (rw (f, long_there w t)) ∙ sym (shown_there (row_at w l i) t)
+    | inr out ↦ let none : at + n - at ≡ 0 = omega (arith, f, long_not w out) in rw (none, shown_not (row_at w l i) out)
   ]
 
 -- one row later
 pub shown_next : (h k late : ℕ) (row : List ℕ) → shown h (k + 1) (late + 1) row ≡ shown h k late row
 shown_next h k late row = elim (there_or_not h k late) [
-  | inl t ↦ shown-there h (k + 1) (late + 1) row (omega arith, omega arith) ∙ sym (shown-there h k late row t)
-  | inr n ↦ shown-not h (k + 1) (late + 1) row (λ t. n (omega arith, omega arith)) ∙ sym (shown-not h k late row n)
+  | inl t ↦ shown_there h (k + 1) (late + 1) row (omega arith, omega arith) ∙ sym (shown_there h k late row t)
+  | inr n ↦ shown_not h (k + 1) (late + 1) row (λ t. n (omega arith, omega arith)) ∙ sym (shown_not h k late row n)
 ]

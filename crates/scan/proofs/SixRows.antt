@@ -69,21 +69,21 @@ module _ (w : ℕ) (rows : List ℕ) where
 
 -- and the two by two of such six
 module _ (w : ℕ) (a b c rest : List ℕ) (long-a : length a ≡ w + w) (long-b : length b ≡ w + w) (long-c : length c ≡ w + w) where
-  pub two-first : two_of w (a ++ b ++ c ++ rest) 0 ≡ a
+  pub two_first : two_of w (a ++ b ++ c ++ rest) 0 ≡ a
   unfolding two_of
-  two-first =
+  two_first =
       ap (λ (l : List ℕ). row_at (w + w) l 0) (append_assoc (a ++ b) c rest ∙ append_assoc a b (c ++ rest))
       ∙ row_at_between (w + w) 0 [] a (b ++ (c ++ rest)) (omega arith) long-a
 
-  pub two-second : two_of w (a ++ b ++ c ++ rest) 1 ≡ b
+  pub two_second : two_of w (a ++ b ++ c ++ rest) 1 ≡ b
   unfolding two_of
-  two-second =
+  two_second =
       ap (λ (l : List ℕ). row_at (w + w) l 1) (append_assoc (a ++ b) c rest)
       ∙ row_at_between (w + w) 1 a b (c ++ rest) (omega arith) long-b
 
-  pub two-third : two_of w (a ++ b ++ c ++ rest) 2 ≡ c
+  pub two_third : two_of w (a ++ b ++ c ++ rest) 2 ≡ c
   unfolding two_of
-  two-third =
+  two_third =
       let long-ab : length (a ++ b) ≡ 2 * (w + w) = length-append a b ∙ omega (arith, long-a, long-b) in
       row_at_between (w + w) 2 (a ++ b) c rest long-ab long-c
 

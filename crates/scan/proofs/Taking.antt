@@ -15,7 +15,7 @@ use Rattle.scan.specs.Ring.{held_in, next, later}
 use Rattle.scan.specs.Held.{Held, pass_three_row, step, after, given}
 use Rattle.scan.specs.Scan.{at_front}
 use Rattle.scan.specs.Asked.{long, Ready}
-use Rattle.scan.proofs.Turns.{length-pass-three, ready-next, held_next}
+use Rattle.scan.proofs.Turns.{length_pass_three, ready-next, held_next}
 
 -- rows given out only grow
 joined_grows : (g : ℕ → List ℕ) (i n : ℕ) → i ≤ n → length (joined i g) ≤ length (joined n g)
@@ -53,9 +53,9 @@ module _ (w h k : ℕ) (rows₀ : List ℕ) (f : ℕ → List ℕ) (o₀ : List 
   abbrev start : Held
   start = held_in w h k rows₀
 
-  given-suc : (i : ℕ) → given start f (i + 1) ≡ given start f i ++ pass_three_row (after start f i) (f i)
+  given_suc : (i : ℕ) → given start f (i + 1) ≡ given start f i ++ pass_three_row (after start f i) (f i)
   unfolding given joined
-  given-suc i = rw add-one
+  given_suc i = rw add-one
 
   module _ (i done : ℕ) (rows o : List ℕ) (so_far : Taken w h k rows₀ f o₀ i done rows o) where
     -- what the next row completes
@@ -66,13 +66,13 @@ module _ (w h k : ℕ) (rows₀ : List ℕ) (f : ℕ → List ℕ) (o₀ : List 
     more-is = ap (λ (held : Held). pass_three_row held (f i)) so_far.hold
 
     more-long : length more ≡ long w h (k + i) 3
-    more-long = ap length (sym more-is) ∙ length-pass-three w h (k + i) rows (f i) so_far.ready
+    more-long = ap length (sym more-is) ∙ length_pass_three w h (k + i) rows (f i) so_far.ready
 
     -- how much is written with it
     pub given-count : length (given start f (i + 1)) ≡ done + long w h (k + i) 3
     given-count =
         let c = so_far.count in
-        ap length (given-suc i) ∙ length-append (given start f i) more ∙ omega (arith, c, more-long)
+        ap length (given_suc i) ∙ length-append (given start f i) more ∙ omega (arith, c, more-long)
 
     -- one row more: its row of pass three is written behind those before it
     pub taken_more : (to : ℕ) (rows' o' new : List ℕ) → length (f i) ≡ long w h (k + i) 0 → AtMost 255 (f i) → k + i + 1 ≤ 70000
@@ -102,27 +102,27 @@ module _ (w h k : ℕ) (rows₀ : List ℕ) (f : ℕ → List ℕ) (o₀ : List 
               ∙ held_next w h (k + i) rows (f i) so_far.ready levels row_long
               ∙ rw (add-one i) (ap (λ (held : Held). step held (f i)) so_far.hold);
           count = is-to ∙ sym given-count;
-          written = is-o ∙ rw (before, new_is, given-suc i) (sym (append_assoc g more _) ∙ ap (λ (z : List ℕ). g ++ more ++ z) rest);
+          written = is-o ∙ rw (before, new_is, given_suc i) (sym (append_assoc g more _) ∙ ap (λ (z : List ℕ). g ++ more ++ z) rest);
         }
 
   -- all n
-  pub taken-all : (i n done : ℕ) (rows o : List ℕ) → i ≡ n → Taken w h k rows₀ f o₀ i done rows o
+  pub taken_all : (i n done : ℕ) (rows o : List ℕ) → i ≡ n → Taken w h k rows₀ f o₀ i done rows o
       → (rows ≡ later w h k rows₀ f n) × (o ≡ at_front (given start f n) o₀)
-  taken-all i n done rows o e t = rw (← e) (t.are, t.written)
+  taken_all i n done rows o e t = rw (← e) (t.are, t.written)
 
 -- ---- the same, in the words of the parts that the code lends: row i of the levels, and the output from `done` on
 module _ (each i at : ℕ) (levels : List ℕ) (is_at : at ≡ i * each) (inside : at + each ≤ length levels) where
   abbrev part : List ℕ
   part = take (at + each - at) (drop at levels)
 
-  part-is-row : part ≡ row_at each levels i
-  part-is-row = part_row each i at (at + each) levels is_at refl
+  part_is_row : part ≡ row_at each levels i
+  part_is_row = part_row each i at (at + each) levels is_at refl
 
   row_long : length (row_at each levels i) ≡ each
   row_long = length_row_at each i levels (rw (← is_at) inside)
 
-  pub part-long : (n : ℕ) → n ≡ each → length part ≡ n
-  part-long n e = ap length part-is-row ∙ row_long ∙ sym e
+  pub part_long : (n : ℕ) → n ≡ each → length part ≡ n
+  part_long n e = ap length part_is_row ∙ row_long ∙ sym e
 
   pub turn : (w h k done to : ℕ) (rows₀ o₀ rows o rows' o' new : List ℕ) → Taken w h k rows₀ (row_at each levels) o₀ i done rows o
       → long w h (k + i) 0 ≡ each → AtMost 255 levels → k + i + 1 ≤ 70000
@@ -138,7 +138,7 @@ module _ (each i at : ℕ) (levels : List ℕ) (is_at : at ≡ i * each) (inside
       drop_of_length-le (drop done o) {i = length o - done} (rw (length-drop done o) (omega arith)) in
       taken_more w h k rows₀ (row_at each levels) o₀ i done rows o so_far to rows' o' new (row_long ∙ sym e)
       (most_row_at 255 each i levels bytes) few
-      (is-rows ∙ ap (next w h (k + i) rows) part-is-row)
-      (is-new ∙ rw (part-is-row, all))
+      (is-rows ∙ ap (next w h (k + i) rows) part_is_row)
+      (is-new ∙ rw (part_is_row, all))
       (is-o ∙ ap (λ (z : List ℕ). take done o ++ (new ++ z)) none ∙ ap (λ (z : List ℕ). take done o ++ z) (append-nil new))
       is-to

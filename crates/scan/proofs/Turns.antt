@@ -7,39 +7,39 @@ use lib.ListN.{length, drop, length-append, length-drop}
 use Rattle.arithmetic.specs.Lists.{AtMost}
 use Rattle.memory.specs.Memory.{two_of, Ranges}
 use Rattle.scan.specs.Ring.{last_two, held_in, replaced, next}
-use Rattle.scan.proofs.SixRows.{length_two_of, two-first, two-second, two-third}
+use Rattle.scan.proofs.SixRows.{length_two_of, two_first, two_second, two_third}
 use Rattle.scan.specs.Held.{Held, followed, pass_one_row, pass_two_row, pass_three_row, step}
 use Rattle.scan.specs.Asked.{long, Ready}
-use Rattle.scan.proofs.Twos.{length-completed, most-completed, most-replaced, length-replaced, two-next}
+use Rattle.scan.proofs.Twos.{length_completed, most_completed, most_replaced, length-replaced, two-next}
 
 -- ---- what a row completes: how long it is, and how large
 module _ (w h k : ℕ) (rows row : List ℕ) (ready : Ready w h k rows) where
   abbrev before : Held
   before = held_in w h k rows
 
-  two-long : (pass : ℕ) → pass ≤ 2 → length (two_of w rows pass) ≡ w + w
-  two-long pass few = length_two_of w pass rows ready.room few
+  two_long : (pass : ℕ) → pass ≤ 2 → length (two_of w rows pass) ≡ w + w
+  two_long pass few = length_two_of w pass rows ready.room few
 
-  pub length-pass-one : length (pass_one_row before row) ≡ long w h k 1
+  pub length_pass_one : length (pass_one_row before row) ≡ long w h k 1
   unfolding pass_one_row held_in
-  length-pass-one = length-completed w h k 1 (two_of w rows 0) row (two-long 0 (omega arith))
+  length_pass_one = length_completed w h k 1 (two_of w rows 0) row (two_long 0 (omega arith))
 
-  pub length-pass-two : length (pass_two_row before row) ≡ long w h k 2
+  pub length_pass_two : length (pass_two_row before row) ≡ long w h k 2
   unfolding pass_two_row held_in
-  length-pass-two = length-completed w h k 2 (two_of w rows 1) (pass_one_row before row) (two-long 1 (omega arith))
+  length_pass_two = length_completed w h k 2 (two_of w rows 1) (pass_one_row before row) (two_long 1 (omega arith))
 
-  pub length-pass-three : length (pass_three_row before row) ≡ long w h k 3
+  pub length_pass_three : length (pass_three_row before row) ≡ long w h k 3
   unfolding pass_three_row held_in
-  length-pass-three = length-completed w h k 3 (two_of w rows 2) (pass_two_row before row) (two-long 2 (omega arith))
+  length_pass_three = length_completed w h k 3 (two_of w rows 2) (pass_two_row before row) (two_long 2 (omega arith))
 
   module _ (levels : AtMost 255 row) where
     pub most-pass-one : AtMost 510 (pass_one_row before row)
     unfolding pass_one_row held_in
-    most-pass-one = most-completed w h k 1 (two_of w rows 0) row 255 ready.ranges.levels levels
+    most-pass-one = most_completed w h k 1 (two_of w rows 0) row 255 ready.ranges.levels levels
 
     pub most-pass-two : AtMost 1020 (pass_two_row before row)
     unfolding pass_two_row held_in
-    most-pass-two = most-completed w h k 2 (two_of w rows 1) (pass_one_row before row) 510 ready.ranges.halves most-pass-one
+    most-pass-two = most_completed w h k 2 (two_of w rows 1) (pass_one_row before row) 510 ready.ranges.halves most-pass-one
 
     -- ---- the rows then
     module _ (row_long : length row ≡ long w h k 0) where
@@ -53,25 +53,25 @@ module _ (w h k : ℕ) (rows row : List ℕ) (ready : Ready w h k rows) where
       c = replaced w k (two_of w rows 2) (pass_two_row before row)
 
       long-a : length a ≡ w + w
-      long-a = length-replaced w h k 0 (two_of w rows 0) row (two-long 0 (omega arith)) row_long
+      long-a = length-replaced w h k 0 (two_of w rows 0) row (two_long 0 (omega arith)) row_long
 
       long-b : length b ≡ w + w
-      long-b = length-replaced w h k 1 (two_of w rows 1) (pass_one_row before row) (two-long 1 (omega arith)) length-pass-one
+      long-b = length-replaced w h k 1 (two_of w rows 1) (pass_one_row before row) (two_long 1 (omega arith)) length_pass_one
 
       long-c : length c ≡ w + w
-      long-c = length-replaced w h k 2 (two_of w rows 2) (pass_two_row before row) (two-long 2 (omega arith)) length-pass-two
+      long-c = length-replaced w h k 2 (two_of w rows 2) (pass_two_row before row) (two_long 2 (omega arith)) length_pass_two
 
       first-is : two_of w (next w h k rows row) 0 ≡ a
       unfolding next
-      first-is = two-first w a b c (drop (6 * w) rows) long-a long-b long-c
+      first-is = two_first w a b c (drop (6 * w) rows) long-a long-b long-c
 
       second_is : two_of w (next w h k rows row) 1 ≡ b
       unfolding next
-      second_is = two-second w a b c (drop (6 * w) rows) long-a long-b long-c
+      second_is = two_second w a b c (drop (6 * w) rows) long-a long-b long-c
 
       third-is : two_of w (next w h k rows row) 2 ≡ c
       unfolding next
-      third-is = two-third w a b c (drop (6 * w) rows) long-a long-b long-c
+      third-is = two_third w a b c (drop (6 * w) rows) long-a long-b long-c
 
       pub length-next : length (next w h k rows row) ≡ length rows
       unfolding next
@@ -81,10 +81,10 @@ module _ (w h k : ℕ) (rows row : List ℕ) (ready : Ready w h k rows) where
 
       ranges-next : Ranges w (next w h k rows row)
       ranges-next = record {
-        levels = rw first-is (most-replaced w h k 0 (two_of w rows 0) row 255 ready.ranges.levels levels);
-        halves = rw second_is (most-replaced w h k 1 (two_of w rows 1) (pass_one_row before row) 510 ready.ranges.halves most-pass-one);
+        levels = rw first-is (most_replaced w h k 0 (two_of w rows 0) row 255 ready.ranges.levels levels);
+        halves = rw second_is (most_replaced w h k 1 (two_of w rows 1) (pass_one_row before row) 510 ready.ranges.halves most-pass-one);
         quarters =
-            rw third-is (most-replaced w h k 2 (two_of w rows 2) (pass_two_row before row) 1020 ready.ranges.quarters most-pass-two);
+            rw third-is (most_replaced w h k 2 (two_of w rows 2) (pass_two_row before row) 1020 ready.ranges.quarters most-pass-two);
       }
 
       pub ready-next : k + 1 ≤ 70000 → Ready w h (k + 1) (next w h k rows row)
@@ -96,11 +96,11 @@ module _ (w h k : ℕ) (rows row : List ℕ) (ready : Ready w h k rows) where
       unfolding held_in step
       held_next = λ i. record {
         levels = (ap (last_two w h (k + 1) 1) first-is ∙ followed-by 0 0 (omega arith) row row_long) i;
-        halves = (ap (last_two w h (k + 1) 2) second_is ∙ followed-by 1 1 (omega arith) (pass_one_row before row) length-pass-one) i;
-        quarters = (ap (last_two w h (k + 1) 3) third-is ∙ followed-by 2 2 (omega arith) (pass_two_row before row) length-pass-two) i;
+        halves = (ap (last_two w h (k + 1) 2) second_is ∙ followed-by 1 1 (omega arith) (pass_one_row before row) length_pass_one) i;
+        quarters = (ap (last_two w h (k + 1) 3) third-is ∙ followed-by 2 2 (omega arith) (pass_two_row before row) length_pass_two) i;
       }
         where
           followed-by : (pass late : ℕ) → pass ≤ 2 → (r : List ℕ) → length r ≡ long w h k late
               → last_two w h (k + 1) (late + 1) (replaced w k (two_of w rows pass) r)
               ≡ followed (last_two w h k (late + 1) (two_of w rows pass)) r
-          followed-by pass late few r r-long = two-next w h k late (two_of w rows pass) r (two-long pass few) r-long
+          followed-by pass late few r r-long = two-next w h k late (two_of w rows pass) r (two_long pass few) r-long

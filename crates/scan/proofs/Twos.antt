@@ -14,14 +14,14 @@ use Rattle.filter.specs.Median.{row_of}
 use Rattle.filter.specs.Row.{Beside, RowOutcome, RowIs}
 use Rattle.filter.proofs.Blocks.{length_row}
 use Rattle.filter.proofs.Ranges.{most_row}
-use Rattle.filter.proofs.RowOutcomes.{RowFits, when-row-fits}
+use Rattle.filter.proofs.RowOutcomes.{RowFits, when_row_fits}
 use Rattle.memory.specs.Memory.{row_at}
-use Rattle.memory.proofs.Places.{length_row_at, most_row_at, most_over, row-at-same, row-at-other}
+use Rattle.memory.proofs.Places.{length_row_at, most_row_at, most_over, row_at_same, row_at_other}
 use Rattle.scan.specs.Ring.{shown, last_two, replaced}
 use Rattle.scan.specs.Held.{completed, followed}
 use Rattle.scan.specs.Asked.{long, Below}
-use Rattle.scan.proofs.Shown.{there_or_not, long-there, long-not, none-or-long, long-most}
-use Rattle.scan.proofs.Shown.{shown-there, shown-not, length-shown, most-shown, shown-part, shown_next}
+use Rattle.scan.proofs.Shown.{there_or_not, long_there, long_not, none_or_long, long_most}
+use Rattle.scan.proofs.Shown.{shown_there, shown_not, length_shown, most_shown, shown_part, shown_next}
 
 -- either of two rows lies within them
 pub place_inside : (w i : ℕ) → i ≤ 1 → i * w + w ≤ w + w
@@ -41,16 +41,16 @@ module _ (w h k late : ℕ) (two row : List ℕ) where
   half : length two ≡ w + w → (i : ℕ) → i ≤ 1 → length (row_at w two i) ≡ w
   half room i few = length_row_at w i two (omega (arith, place_inside w i few, room))
 
-  pub length-completed : length two ≡ w + w → length (completed (last_two w h k late two) row) ≡ long w h k late
+  pub length_completed : length two ≡ w + w → length (completed (last_two w h k late two) row) ≡ long w h k late
   unfolding completed last_two
-  length-completed room = length_row _ _ _ ∙ length-shown h k late w (row_at w two ((k + 1) % 2)) (half room ((k + 1) % 2) (omega arith))
+  length_completed room = length_row _ _ _ ∙ length_shown h k late w (row_at w two ((k + 1) % 2)) (half room ((k + 1) % 2) (omega arith))
 
-  pub most-completed : (b : ℕ) → AtMost b two → AtMost b row → AtMost (b + b) (completed (last_two w h k late two) row)
+  pub most_completed : (b : ℕ) → AtMost b two → AtMost b row → AtMost (b + b) (completed (last_two w h k late two) row)
   unfolding completed last_two
-  most-completed b small small_row =
+  most_completed b small small_row =
       most_row b _ _ _
-      (most-shown h k (late + 1) b (row_at w two (k % 2)) (most_row_at b w (k % 2) two small))
-      (most-shown h k late b (row_at w two ((k + 1) % 2)) (most_row_at b w ((k + 1) % 2) two small))
+      (most_shown h k (late + 1) b (row_at w two (k % 2)) (most_row_at b w (k % 2) two small))
+      (most_shown h k late b (row_at w two ((k + 1) % 2)) (most_row_at b w ((k + 1) % 2) two small))
       small_row
 
 -- ---- as the code completes it: the two rows are read where they lie
@@ -61,14 +61,14 @@ module _ (w h k late : ℕ) (two row out : List ℕ) (asked : Below w k late two
   abbrev newer : List ℕ
   newer = shown h k late (row_at w two ((k + 1) % 2))
 
-  shown-long : (l i : ℕ) → i ≤ 1 → length (shown h k l (row_at w two i)) ≡ long w h k l
-  shown-long l i few = length-shown h k l w (row_at w two i) (half w h k late two row asked.room i few)
+  shown_long : (l i : ℕ) → i ≤ 1 → length (shown h k l (row_at w two i)) ≡ long w h k l
+  shown_long l i few = length_shown h k l w (row_at w two i) (half w h k late two row asked.room i few)
 
   -- where the newer one is not there, nothing is
-  pub none-completed : (n : ℕ) → n ≡ long w h k late → n ≡ 0 → out ≡ completed (last_two w h k late two) row ++ drop (long w h k late) out
-  none-completed n e z =
+  pub none_completed : (n : ℕ) → n ≡ long w h k late → n ≡ 0 → out ≡ completed (last_two w h k late two) row ++ drop (long w h k late) out
+  none_completed n e z =
       let none : long w h k late ≡ 0 = omega arith in
-      let empty = no_elements (completed (last_two w h k late two) row) (length-completed w h k late two row asked.room ∙ none) in
+      let empty = no_elements (completed (last_two w h k late two) row) (length_completed w h k late two row asked.room ∙ none) in
       rw (empty, none)
 
   fits : long w h k late ≢ 0 → long w h k late ≤ length out → RowFits older newer row out
@@ -76,49 +76,49 @@ module _ (w h k late : ℕ) (two row out : List ℕ) (asked : Below w k late two
     beside = (beside-newer (length older) older-beside, beside-newer (length row) asked.beside);
     long_output = rw newer-long room;
     small = (
-      most-shown h k (late + 1) 1020 (row_at w two (k % 2)) (most_row_at 1020 w (k % 2) two asked.small),
-      most-shown h k late 1020 (row_at w two ((k + 1) % 2)) (most_row_at 1020 w ((k + 1) % 2) two asked.small),
+      most_shown h k (late + 1) 1020 (row_at w two (k % 2)) (most_row_at 1020 w (k % 2) two asked.small),
+      most_shown h k late 1020 (row_at w two ((k + 1) % 2)) (most_row_at 1020 w ((k + 1) % 2) two asked.small),
       asked.small_row,
     );
   }
     where
       newer-long : length newer ≡ long w h k late
-      newer-long = shown-long late ((k + 1) % 2) (omega arith)
+      newer-long = shown_long late ((k + 1) % 2) (omega arith)
 
       older-beside : Beside w (length older)
-      older-beside = rw (shown-long (late + 1) (k % 2) (omega arith)) (none-or-long h k (late + 1) w)
+      older-beside = rw (shown_long (late + 1) (k % 2) (omega arith)) (none_or_long h k (late + 1) w)
 
       whole : length newer ≡ w
-      whole = elim (none-or-long h k late w) [ inl z ↦ absurd (some z) | inr e ↦ newer-long ∙ e ]
+      whole = elim (none_or_long h k late w) [ inl z ↦ absurd (some z) | inr e ↦ newer-long ∙ e ]
 
       beside-newer : (n : ℕ) → Beside w n → Beside (length newer) n
       beside-newer n b = rw whole b
 
   -- where it is, the filter makes the row
-  pub row-completed : (n m : ℕ) → n ≡ long w h k late → m ≡ long w h k (late + 1) → n ≢ 0 → long w h k late ≤ length out → (r : RowOutcome)
+  pub row_completed : (n m : ℕ) → n ≡ long w h k late → m ≡ long w h k (late + 1) → n ≢ 0 → long w h k late ≤ length out → (r : RowOutcome)
       → RowIs (take (k % 2 * w + m - k % 2 * w) (drop (k % 2 * w) two))
       (take ((k + 1) % 2 * w + n - (k + 1) % 2 * w) (drop ((k + 1) % 2 * w) two)) row out r
       → r.output ≡ completed (last_two w h k late two) row ++ drop (long w h k late) out
   unfolding completed last_two
-  row-completed n m e f some room r d =
-      let upper = shown-part h k (late + 1) w (k % 2) (k % 2 * w) m two refl f in
-      let lower = shown-part h k late w ((k + 1) % 2) ((k + 1) % 2 * w) n two refl e in
-      ap (λ (o : RowOutcome). o.output) (when-row-fits older newer row out r (fits (λ z. some (e ∙ z)) room) (rw (upper, lower) at d))
-      ∙ ap (λ (l : ℕ). row_of older newer row ++ drop l out) (shown-long late ((k + 1) % 2) (omega arith))
+  row_completed n m e f some room r d =
+      let upper = shown_part h k (late + 1) w (k % 2) (k % 2 * w) m two refl f in
+      let lower = shown_part h k late w ((k + 1) % 2) ((k + 1) % 2 * w) n two refl e in
+      ap (λ (o : RowOutcome). o.output) (when_row_fits older newer row out r (fits (λ z. some (e ∙ z)) room) (rw (upper, lower) at d))
+      ∙ ap (λ (l : ℕ). row_of older newer row ++ drop l out) (shown_long late ((k + 1) % 2) (omega arith))
 
 -- ---- which the last two are then
 module _ (w h k late : ℕ) (two row : List ℕ) where
-  pub is-replaced : (x : List ℕ) → x ≡ over two (k % 2 * w) row → x ≡ replaced w k two row
+  pub is_replaced : (x : List ℕ) → x ≡ over two (k % 2 * w) row → x ≡ replaced w k two row
   unfolding replaced
-  is-replaced x e = e
+  is_replaced x e = e
 
-  pub most-replaced : (b : ℕ) → AtMost b two → AtMost b row → AtMost b (replaced w k two row)
+  pub most_replaced : (b : ℕ) → AtMost b two → AtMost b row → AtMost b (replaced w k two row)
   unfolding replaced
-  most-replaced b small small_row = most_over b (k % 2 * w) two row small small_row
+  most_replaced b small small_row = most_over b (k % 2 * w) two row small small_row
 
   module _ (room : length two ≡ w + w) (row_long : length row ≡ long w h k late) where
     few : length row ≤ w
-    few = rw row_long (long-most h k late w)
+    few = rw row_long (long_most h k late w)
 
     inside : k % 2 * w + w ≤ length two
     inside = omega (arith, place_inside w (k % 2) (omega arith), room)
@@ -132,13 +132,13 @@ module _ (w h k late : ℕ) (two row : List ℕ) where
         ≡ shown h k (late + 1) (row_at w two ((k + 1) % 2))
     older-is =
         shown_next h k (late + 1) (row_at w (over two (k % 2 * w) row) ((k + 1) % 2))
-        ∙ ap (shown h k (late + 1)) (row-at-other w (k % 2) two row few inside ((k + 1) % 2) (λ e. omega (arith, e)))
+        ∙ ap (shown h k (late + 1)) (row_at_other w (k % 2) two row few inside ((k + 1) % 2) (λ e. omega (arith, e)))
 
     -- and the one that came is the newer one
     in_place : shown h k late (row_at w (over two (k % 2 * w) row) (k % 2)) ≡ row
     in_place = elim (there_or_not h k late) [
-      | inl t ↦ shown-there h k late _ t ∙ row-at-same w (k % 2) two row few inside (row_long ∙ long-there h k late w t)
-      | inr n ↦ shown-not h k late _ n ∙ sym (no_elements row (row_long ∙ long-not h k late w n))
+      | inl t ↦ shown_there h k late _ t ∙ row_at_same w (k % 2) two row few inside (row_long ∙ long_there h k late w t)
+      | inr n ↦ shown_not h k late _ n ∙ sym (no_elements row (row_long ∙ long_not h k late w n))
     ]
 
     newer-is : shown h (k + 1) (late + 1) (row_at w (over two (k % 2 * w) row) ((k + 1 + 1) % 2)) ≡ row

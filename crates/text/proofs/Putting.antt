@@ -71,8 +71,8 @@ module _ (Says : List ℕ → Type 0) (most : ℕ) (before bytes : List ℕ) (at
   pub place_after : end < length bytes
   place_after = rw are (omega (arith, ends, d.short, length_over before at d.text (omega (arith, d.short))))
 
-  pub after-put : PutIs Says before at after (block (end + 1) (set bytes end after))
-  after-put =
+  pub after_put : PutIs Says before at after (block (end + 1) (set bytes end after))
+  after_put =
       goes_on room
       (record {
         text = d.text;

@@ -15,7 +15,7 @@ use Rattle.arithmetic.proofs.Lists.{most_equal}
 use Rattle.arithmetic.proofs.Sums.{sum_equal}
 use Rattle.threshold.specs.Histogram.{count_of, Countable, Tally, tally, CountIs}
 use Rattle.threshold.specs.Asked.{added_up_to, Added}
-use Rattle.threshold.proofs.Histograms.{counts-none, counts-more, count_done}
+use Rattle.threshold.proofs.Histograms.{counts_none, counts_more, count_done}
 use Rattle.threshold.proofs.Outcomes.{one_count}
 
 -- the counts of values that can be counted are what counting leaves, and nothing else is
@@ -78,7 +78,7 @@ pub four_values : (h : List ℕ) (r : Tally) → length h ≡ 256 → CountIs fo
     → r ≡ tally 0 (set (set (set (replicate 256 0) 0 2) 1 1) 255 1)
 four_values h r =
     no_other four _ h r four_countable
-    (counts-more four four_countable 3 _
-    (counts-more four four_countable 2 _
-    (counts-more four four_countable 1 _
-    (counts-more four four_countable 0 _ (counts-none four)))))
+    (counts_more four four_countable 3 _
+    (counts_more four four_countable 2 _
+    (counts_more four four_countable 1 _
+    (counts_more four four_countable 0 _ (counts_none four)))))

@@ -15,7 +15,7 @@ use Rattle.arithmetic.proofs.Greatest.{one_least, least_found}
 use Rattle.threshold.specs.Histogram.{total}
 use Rattle.threshold.specs.TwoMeans.{start, round, Within, Rests, threshold, LiesBetween, Settled}
 use Rattle.threshold.proofs.Rounds.{same_threshold}
-use Rattle.threshold.proofs.Sequence.{round-within, threshold-within, rests_or_not, given_back, stays-above, stays-below, comes-to-rest}
+use Rattle.threshold.proofs.Sequence.{round-within, threshold_within, rests_or_not, given_back, stays-above, stays-below, comes-to-rest}
 
 -- threshold k at rest
 abbrev pub RestsAt : ℕ → List ℕ → ℕ → Type 0
@@ -33,10 +33,10 @@ module _ (m : ℕ) (h : List ℕ) (some : 0 < total h) where
     in_time = let r = comes-to-rest h some m in omega (arith, first.least r.0 r.2, r.1)
 
     within : Within h answer
-    within = round-within h some T (threshold-within h some m k)
+    within = round-within h some T (threshold_within h some m k)
 
     midpoint : round h answer ≡ answer
-    midpoint = same_threshold h answer T within.proper (threshold-within h some m k).proper first.holds.still
+    midpoint = same_threshold h answer T within.proper (threshold_within h some m k).proper first.holds.still
 
     no_other : (R : Fraction) → Rests h R → LiesBetween (start m h) answer R → Equal R answer
     unfolding threshold
@@ -68,11 +68,11 @@ module _ (m : ℕ) (h : List ℕ) (some : 0 < total h) where
 
 module _ (m : ℕ) (h : List ℕ) (j k : ℕ) (T U : Fraction) (this : Settled m h j T) (that : Settled m h k U) where
   -- the demand leaves one answer
-  pub one-rounds : j ≡ k
-  one-rounds = one_least this.first that.first
+  pub one_rounds : j ≡ k
+  one_rounds = one_least this.first that.first
 
   pub one_answer : T ≡ U
-  one_answer = this.answer ∙ ap (λ (i : ℕ). round h (threshold m h i)) one-rounds ∙ sym that.answer
+  one_answer = this.answer ∙ ap (λ (i : ℕ). round h (threshold m h i)) one_rounds ∙ sym that.answer
 
 -- the sequence stands still for good: every threshold after the one at rest is the answer
 pub stands : (m : ℕ) (h : List ℕ) (k : ℕ) (T : Fraction) → Settled m h k T → (j : ℕ) → threshold m h (suc k + j) ≡ T

@@ -75,32 +75,32 @@ module _ (values : List ℕ) where
   added_more n v = sum_more n (λ i. one (get_or values i 0) v)
 
   -- n values add at most n
-  added-most : (n v : ℕ) → added_up_to values n v ≤ n
+  added_most : (n v : ℕ) → added_up_to values n v ≤ n
   unfolding added_up_to
-  added-most n v = omega (arith, sum_most 1 n (λ i. one (get_or values i 0) v) (λ i. one_most (get_or values i 0) v))
+  added_most n v = omega (arith, sum_most 1 n (λ i. one (get_or values i 0) v) (λ i. one_most (get_or values i 0) v))
 
   -- at all levels together, n values that can be counted add n
-  added-all : Countable values → (n : ℕ) → sum 256 (added_up_to values n) ≡ n
-  added-all ok zero = omega (arith, sum_most 0 256 (added_up_to values 0) (λ v. omega (arith, added_none v)))
-  added-all ok (suc n) =
+  added_all : Countable values → (n : ℕ) → sum 256 (added_up_to values n) ≡ n
+  added_all ok zero = omega (arith, sum_most 0 256 (added_up_to values 0) (λ v. omega (arith, added_none v)))
+  added_all ok (suc n) =
       let x : ℕ = get_or values n 0 in
       omega (
         arith,
         sum_same 256 (added_up_to values (suc n)) (λ v. added_up_to values n v + one x v) (λ v h. rw (← add-one n) (added_more n v)),
         sum_add 256 (added_up_to values n) (one x),
-        added-all ok n,
+        added_all ok n,
         ones x 256 (level_below values n ok),
       )
 
   -- ---- the counts, one value after the other
   -- of no values: a zero in each place
-  pub counts-none : Added values 0 (replicate 256 0)
-  counts-none = record { places = length-replicate {A = ℕ} 256 0; counts_are = λ v h. get_or-replicate 256 v 0 0 h ∙ sym (added_none v) }
+  pub counts_none : Added values 0 (replicate 256 0)
+  counts_none = record { places = length-replicate {A = ℕ} 256 0; counts_are = λ v h. get_or-replicate 256 v 0 0 h ∙ sym (added_none v) }
 
   -- one value more
-  pub counts-more : Countable values → (n : ℕ) (counts : List ℕ) → Added values n counts
+  pub counts_more : Countable values → (n : ℕ) (counts : List ℕ) → Added values n counts
       → let l = get_or values n 0 / 8 in Added values (n + 1) (set counts l (get_or counts l 0 + 1))
-  counts-more ok n counts so_far = record { places = length-set counts l more ∙ so_far.places; counts_are = are }
+  counts_more ok n counts so_far = record { places = length-set counts l more ∙ so_far.places; counts_are = are }
     where
       x : ℕ
       x = get_or values n 0
@@ -126,12 +126,12 @@ module _ (values : List ℕ) where
       ])
 
   -- there is room for it: its level is one of 256, and no place has more than there are values
-  pub counts-room : Countable values → (n : ℕ) (counts : List ℕ) → n ≤ length values → Added values n counts
+  pub counts_room : Countable values → (n : ℕ) (counts : List ℕ) → n ≤ length values → Added values n counts
       → let l = get_or values n 0 / 8 in (l < 256) × (get_or counts l 0 ≤ 1048576)
-  counts-room ok n counts part so_far =
+  counts_room ok n counts part so_far =
       let l = get_or values n 0 / 8 in
       let here : l < 256 = level_below values n ok in
-      (here, omega (arith, so_far.counts_are l here, added-most n l, ok.few))
+      (here, omega (arith, so_far.counts_are l here, added_most n l, ok.few))
 
 -- ---- the histogram
 -- what is counted and put into the histogram
@@ -146,5 +146,5 @@ count_done values counts histogram ok all put =
       counts = all.counts_are;
       total_is =
           rw all.places
-          (sum_same 256 (count_of counts) (added_up_to values (length values)) all.counts_are ∙ added-all values ok (length values));
+          (sum_same 256 (count_of counts) (added_up_to values (length values)) all.counts_are ∙ added_all values ok (length values));
     })

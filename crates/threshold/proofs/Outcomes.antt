@@ -13,9 +13,9 @@ use Rattle.answers.proofs.Refusals.{past, alike, together}
 use Rattle.threshold.specs.declared.Threshold.{Threshold}
 use Rattle.threshold.specs.Histogram.{Countable, Tally, tally, Counted, CountIs}
 use Rattle.threshold.specs.TwoMeans.{highest, threshold, answered, refused, Done, TwoMeansIs}
-use Rattle.threshold.proofs.Present.{highest-below}
+use Rattle.threshold.proofs.Present.{highest_below}
 use Rattle.threshold.proofs.Tables.{denominator_small}
-use Rattle.threshold.proofs.Demand.{one-rounds, one_answer}
+use Rattle.threshold.proofs.Demand.{one_rounds, one_answer}
 
 -- ---- counting
 -- two histograms of the same values are one
@@ -52,7 +52,7 @@ one_two_means h a b =
     together alike (together alike (together alike
     (λ p q.
     let number = alike p.number q.number in
-    let rounds = one-rounds 128 h a.rounds b.rounds a.value b.value p.settled q.settled in
+    let rounds = one_rounds 128 h a.rounds b.rounds a.value b.value p.settled q.settled in
     let value = one_answer 128 h a.rounds b.rounds a.value b.value p.settled q.settled in
     λ i. answered (number i) (rounds i) (value i))))
 
@@ -81,7 +81,7 @@ value_small h r done (inr (levels, inr (some, inr (few, d)))) =
     let s = d.settled in
     let small : r.value.denominator ≤ 2199023255552 =
     rw s.answer (denominator_small h (threshold 128 h r.rounds) (record { levels = omega (arith, levels); values = few })) in
-    let top : highest h ≤ 255 = omega (arith, levels, highest-below h (pos_of_ne-zero some)) in
+    let top : highest h ≤ 255 = omega (arith, levels, highest_below h (pos_of_ne-zero some)) in
     let under : r.value.numerator * 1 ≤ highest h * r.value.denominator = s.rests.within.to_highest in
     (omega (arith, mul-le-mul top small), small)
 

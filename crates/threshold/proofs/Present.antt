@@ -85,34 +85,34 @@ highest_is (c ∷ cs) some = go (eqb (total cs) 0) refl (highest_is cs)
 
 -- where the searches for the two ends stand, from either side, and where they stop
 module _ (h : List ℕ) (some : 0 < total h) where
-  pub lowest-below : lowest h < length h
-  lowest-below = present_below h (lowest h) (lowest_is h some).holds
+  pub lowest_below : lowest h < length h
+  lowest_below = present_below h (lowest h) (lowest_is h some).holds
 
-  pub highest-below : highest h < length h
-  highest-below = present_below h (highest h) (highest_is h some).holds
+  pub highest_below : highest h < length h
+  highest_below = present_below h (highest h) (highest_is h some).holds
 
-  pub lowest-later : (v : ℕ) → v ≤ lowest h → count_of h v ≡ 0 → v + 1 ≤ lowest h
-  lowest-later v so_far absent = omega (arith, absent_is_another h (lowest h) v (lowest_is h some).holds absent)
+  pub lowest_later : (v : ℕ) → v ≤ lowest h → count_of h v ≡ 0 → v + 1 ≤ lowest h
+  lowest_later v so_far absent = omega (arith, absent_is_another h (lowest h) v (lowest_is h some).holds absent)
 
-  pub lowest-here : (v : ℕ) → v ≤ lowest h → ¬ (count_of h v ≡ 0) → v ≡ lowest h
-  lowest-here v so_far there = omega (arith, (lowest_is h some).least v (pos_of_ne-zero there))
+  pub lowest_here : (v : ℕ) → v ≤ lowest h → ¬ (count_of h v ≡ 0) → v ≡ lowest h
+  lowest_here v so_far there = omega (arith, (lowest_is h some).least v (pos_of_ne-zero there))
 
-  pub highest-sooner : (v : ℕ) → highest h ≤ v → count_of h v ≡ 0 → highest h + 1 ≤ v
-  highest-sooner v so_far absent = omega (arith, absent_is_another h (highest h) v (highest_is h some).holds absent)
+  pub highest_sooner : (v : ℕ) → highest h ≤ v → count_of h v ≡ 0 → highest h + 1 ≤ v
+  highest_sooner v so_far absent = omega (arith, absent_is_another h (highest h) v (highest_is h some).holds absent)
 
-  pub highest-here : (v : ℕ) → highest h ≤ v → ¬ (count_of h v ≡ 0) → v ≡ highest h
-  highest-here v so_far there = omega (arith, (highest_is h some).most v (pos_of_ne-zero there))
+  pub highest_here : (v : ℕ) → highest h ≤ v → ¬ (count_of h v ≡ 0) → v ≡ highest h
+  highest_here v so_far there = omega (arith, (highest_is h some).most v (pos_of_ne-zero there))
 
 -- the start, from the two ends as they were found
 module _ (m : ℕ) (h : List ℕ) {low high : ℕ} (is-low : low ≡ lowest h) (is-high : high ≡ highest h) where
-  pub start-low : m < low → level low ≡ start m h
+  pub start_low : m < low → level low ≡ start m h
   unfolding start
-  start-low below = rw (← is-low, lt-ltb m low below)
+  start_low below = rw (← is-low, lt-ltb m low below)
 
-  pub start-high : low ≤ m → high < m → level high ≡ start m h
+  pub start_high : low ≤ m → high < m → level high ≡ start m h
   unfolding start
-  start-high from above = rw (← is-low, ← is-high, le-ltb m low from, lt-ltb high m above)
+  start_high from above = rw (← is-low, ← is-high, le-ltb m low from, lt-ltb high m above)
 
-  pub start-usual : low ≤ m → m ≤ high → level m ≡ start m h
+  pub start_usual : low ≤ m → m ≤ high → level m ≡ start m h
   unfolding start
-  start-usual from to = rw (← is-low, ← is-high, le-ltb m low from, le-ltb high m to)
+  start_usual from to = rw (← is-low, ← is-high, le-ltb m low from, le-ltb high m to)

@@ -16,7 +16,7 @@ use Rattle.arithmetic.proofs.Fractions.{not_more_trans, either_way}
 use Rattle.threshold.specs.Histogram.{count_of}
 use Rattle.threshold.specs.TwoMeans.{level, low, high, level_sum, mean, round}
 use Rattle.threshold.proofs.Picks.{Sub, beyond, beyond_is, over_in_two, over_le, over_zero, over_times, over_add}
-use Rattle.threshold.proofs.HalfSums.{half-sum-grows, low_same, high_same}
+use Rattle.threshold.proofs.HalfSums.{half_sum_grows, low_same, high_same}
 
 -- A, B, C and E: the sum and the number of the levels up to T, and of those from T on
 abbrev pub low_sum : List ℕ → Fraction → ℕ
@@ -40,8 +40,8 @@ From q n d = (v : ℕ) → q v ≡ true → n ≤ v * d
 
 -- Levels p below n/d and levels q from there on: what their sums come to, and how far apart their means are.
 module _ (h : List ℕ) (p q : ℕ → Bool) (n d : ℕ) (pos : 0 < d) (below : Under p n d) (from : From q n d) where
-  sum-under : (mean h p).numerator * d + (mean h p).denominator ≤ (mean h p).denominator * n
-  sum-under =
+  sum_under : (mean h p).numerator * d + (mean h p).denominator ≤ (mean h p).denominator * n
+  sum_under =
       omega (
         arith,
         over_le (length h) p (λ v. level_sum h v * d + count_of h v) (λ v. count_of h v * n) (λ v t. omega (arith, mul-le-mul_right (count_of h v) (below v t))),
@@ -50,8 +50,8 @@ module _ (h : List ℕ) (p q : ℕ → Bool) (n d : ℕ) (pos : 0 < d) (below : 
         over_times (length h) p (count_of h) n,
       )
 
-  sum-from : (mean h q).denominator * n ≤ (mean h q).numerator * d
-  sum-from =
+  sum_from : (mean h q).denominator * n ≤ (mean h q).numerator * d
+  sum_from =
       omega (
         arith,
         over_le (length h) q (λ v. count_of h v * n) (λ v. level_sum h v * d) (λ v t. omega (arith, mul-le-mul_right (count_of h v) (from v t))),
@@ -60,7 +60,7 @@ module _ (h : List ℕ) (p q : ℕ → Bool) (n d : ℕ) (pos : 0 < d) (below : 
       )
 
   gap : (mean h p).numerator * (mean h q).denominator * d + (mean h p).denominator * (mean h q).denominator ≤ (mean h q).numerator * (mean h p).denominator * d
-  gap = omega (arith, mul-le-mul_right (mean h q).denominator sum-under, mul-le-mul_right (mean h p).denominator sum-from)
+  gap = omega (arith, mul-le-mul_right (mean h q).denominator sum_under, mul-le-mul_right (mean h p).denominator sum_from)
 
   -- the mean of p is not more than that of q
   apart : NotMore (mean h p) (mean h q)
@@ -70,8 +70,8 @@ module _ (h : List ℕ) (p q : ℕ → Bool) (n d : ℕ) (pos : 0 < d) (below : 
   none_from : Proper (mean h p) → Equal (mean h p) (mean h q) → (mean h q).denominator ≡ 0
   none_from some e = eq_of_mul-eq-mul_right (mean h p).denominator some (mean h q).denominator 0 (omega (arith, gap, ap (λ (z : ℕ). z * d) e))
 
-  none-under : Proper (mean h q) → Equal (mean h p) (mean h q) → (mean h p).denominator ≡ 0
-  none-under some e = eq_of_mul-eq-mul_right (mean h q).denominator some (mean h p).denominator 0 (omega (arith, gap, ap (λ (z : ℕ). z * d) e))
+  none_under : Proper (mean h q) → Equal (mean h p) (mean h q) → (mean h p).denominator ≡ 0
+  none_under some e = eq_of_mul-eq-mul_right (mean h q).denominator some (mean h p).denominator 0 (omega (arith, gap, ap (λ (z : ℕ). z * d) e))
 
 -- where T is not more than U, a level up to T is one up to U, and a level from U on is one from T on
 low_sub : (T U : Fraction) → Proper T → NotMore T U → Sub (low T) (low U)
@@ -100,48 +100,48 @@ module _ (h : List ℕ) (T U : Fraction) (pT : Proper T) (pU : Proper U) (l : No
   high_parts = over_in_two (high U) (high T) (high_sub T U pU l) (length h)
 
   -- the larger the threshold, the more levels are up to it, and the fewer from it on
-  pub low-more : (f : ℕ → ℕ) → sum_over (length h) (low T) f ≤ sum_over (length h) (low U) f
-  low-more f = omega (arith, low_parts f)
+  pub low_more : (f : ℕ → ℕ) → sum_over (length h) (low T) f ≤ sum_over (length h) (low U) f
+  low_more f = omega (arith, low_parts f)
 
-  pub high-fewer : (f : ℕ → ℕ) → sum_over (length h) (high U) f ≤ sum_over (length h) (high T) f
-  high-fewer f = omega (arith, high_parts f)
+  pub high_fewer : (f : ℕ → ℕ) → sum_over (length h) (high U) f ≤ sum_over (length h) (high T) f
+  high_fewer f = omega (arith, high_parts f)
 
   -- where the parts lie
-  low-under : Under (low T) (suc T.numerator) T.denominator
-  low-under v t = omega (arith, leb-true (v * T.denominator) T.numerator t)
+  low_under : Under (low T) (suc T.numerator) T.denominator
+  low_under v t = omega (arith, leb-true (v * T.denominator) T.numerator t)
 
   above_from : From above (suc T.numerator) T.denominator
   above_from v t = leb-false (v * T.denominator) T.numerator (beyond_is (low T) (low U) v t).1
 
-  beneath-under : Under beneath U.numerator U.denominator
-  beneath-under v t = leb-false U.numerator (v * U.denominator) (beyond_is (high U) (high T) v t).1
+  beneath_under : Under beneath U.numerator U.denominator
+  beneath_under v t = leb-false U.numerator (v * U.denominator) (beyond_is (high U) (high T) v t).1
 
-  high-from : From (high U) U.numerator U.denominator
-  high-from v = leb-true U.numerator (v * U.denominator)
+  high_from : From (high U) U.numerator U.denominator
+  high_from v = leb-true U.numerator (v * U.denominator)
 
   -- both means grow with the threshold
-  low-grows : NotMore (mean h (low T)) (mean h (low U))
-  low-grows =
+  low_grows : NotMore (mean h (low T)) (mean h (low U))
+  low_grows =
       rw (low_parts (level_sum h), low_parts (count_of h))
-      (omega (arith, apart h (low T) above (suc T.numerator) T.denominator pT low-under above_from))
+      (omega (arith, apart h (low T) above (suc T.numerator) T.denominator pT low_under above_from))
 
-  high-grows : NotMore (mean h (high T)) (mean h (high U))
-  high-grows =
+  high_grows : NotMore (mean h (high T)) (mean h (high U))
+  high_grows =
       rw (high_parts (level_sum h), high_parts (count_of h))
-      (omega (arith, apart h beneath (high U) U.numerator U.denominator pU beneath-under high-from))
+      (omega (arith, apart h beneath (high U) U.numerator U.denominator pU beneath_under high_from))
 
   -- a round keeps the order
-  pub round-keeps-order : NotMore (round h T) (round h U)
+  pub round_keeps_order : NotMore (round h T) (round h U)
   unfolding round
-  round-keeps-order = half-sum-grows (mean h (low T)) (mean h (high T)) (mean h (low U)) (mean h (high U)) low-grows high-grows
+  round_keeps_order = half_sum_grows (mean h (low T)) (mean h (high T)) (mean h (low U)) (mean h (high U)) low_grows high_grows
 
   -- Where as many levels are up to T as up to U, and as many from T on as from U on, a round gives the same pair; f may count
   -- levels in any way that leaves out none that is present.
-  pub same-split : (f : ℕ → ℕ) → ((v : ℕ) → f v ≡ 0 → count_of h v ≡ 0)
+  pub same_split : (f : ℕ → ℕ) → ((v : ℕ) → f v ≡ 0 → count_of h v ≡ 0)
       → sum_over (length h) (low T) f ≡ sum_over (length h) (low U) f → sum_over (length h) (high T) f ≡ sum_over (length h) (high U) f
       → round h T ≡ round h U
   unfolding round
-  same-split f z a b =
+  same_split f z a b =
       let none_above : sum_over (length h) above f ≡ 0 = omega (arith, low_parts f) in
       let none-beneath : sum_over (length h) beneath f ≡ 0 = omega (arith, high_parts f) in
       let nothing : (v : ℕ) → f v ≡ 0 → level_sum h v ≡ 0 = λ v e. rw (z v e) (omega arith) in
@@ -152,23 +152,23 @@ module _ (h : List ℕ) (T U : Fraction) (pT : Proper T) (pU : Proper U) (l : No
       λ i. fraction (A i * E i + C i * B i) (2 * B i * E i)
 
   -- where the means are the same, so are the numbers of levels
-  low-number : 0 < low_number h T → Equal (mean h (low T)) (mean h (low U)) → low_number h T ≡ low_number h U
-  low-number some e =
+  low_number_is : 0 < low_number h T → Equal (mean h (low T)) (mean h (low U)) → low_number h T ≡ low_number h U
+  low_number_is some e =
       let same : Equal (mean h (low T)) (mean h above) = omega (arith, rw (low_parts (level_sum h), low_parts (count_of h)) at e) in
-      omega (arith, low_parts (count_of h), none_from h (low T) above (suc T.numerator) T.denominator pT low-under above_from some same)
+      omega (arith, low_parts (count_of h), none_from h (low T) above (suc T.numerator) T.denominator pT low_under above_from some same)
 
-  high-number : 0 < high_number h U → Equal (mean h (high T)) (mean h (high U)) → high_number h T ≡ high_number h U
-  high-number some e =
+  high_number_is : 0 < high_number h U → Equal (mean h (high T)) (mean h (high U)) → high_number h T ≡ high_number h U
+  high_number_is some e =
       let same : Equal (mean h beneath) (mean h (high U)) = omega (arith, rw (high_parts (level_sum h), high_parts (count_of h)) at e) in
-      omega (arith, high_parts (count_of h), none-under h beneath (high U) U.numerator U.denominator pU beneath-under high-from some same)
+      omega (arith, high_parts (count_of h), none_under h beneath (high U) U.numerator U.denominator pU beneath_under high_from some same)
 
   -- a round gives equal thresholds as equal pairs: in order
   pair : 0 < low_number h T → 0 < high_number h T → 0 < low_number h U → 0 < high_number h U → Equal (round h T) (round h U) → round h T ≡ round h U
   unfolding round
   pair b e b' e' s =
-      same-split (count_of h) (λ v z. z)
-      (low-number b (low_same (mean h (low T)) (mean h (high T)) (mean h (low U)) (mean h (high U)) low-grows high-grows e e' s))
-      (high-number e' (high_same (mean h (low T)) (mean h (high T)) (mean h (low U)) (mean h (high U)) low-grows high-grows b b' s))
+      same_split (count_of h) (λ v z. z)
+      (low_number_is b (low_same (mean h (low T)) (mean h (high T)) (mean h (low U)) (mean h (high U)) low_grows high_grows e e' s))
+      (high_number_is e' (high_same (mean h (low T)) (mean h (high T)) (mean h (low U)) (mean h (high U)) low_grows high_grows b b' s))
 
 -- and whichever of the two is larger
 pub same_pair : (h : List ℕ) (T U : Fraction) → Proper T → Proper U
@@ -182,6 +182,6 @@ pub same_threshold : (h : List ℕ) (T U : Fraction) → Proper T → Proper U �
 same_threshold h T U pT pU s =
     let up : NotMore T U = le_of_eq s in
     let down : NotMore U T = le_of_eq (sym s) in
-    same-split h T U pT pU up (count_of h) (λ v z. z)
-    (le_antisymm (low-more h T U pT pU up (count_of h)) (low-more h U T pU pT down (count_of h)))
-    (le_antisymm (high-fewer h U T pU pT down (count_of h)) (high-fewer h T U pT pU up (count_of h)))
+    same_split h T U pT pU up (count_of h) (λ v z. z)
+    (le_antisymm (low_more h T U pT pU up (count_of h)) (low_more h U T pU pT down (count_of h)))
+    (le_antisymm (high_fewer h U T pU pT down (count_of h)) (high_fewer h T U pT pU up (count_of h)))

@@ -19,9 +19,9 @@ use Rattle.arithmetic.proofs.Sums.{sum_most}
 use Rattle.arithmetic.proofs.Fractions.{not_more_trans, either_way}
 use Rattle.threshold.specs.Histogram.{count_of, total}
 use Rattle.threshold.specs.TwoMeans.{level, lowest, highest, nearest, start, low, high, level_sum, round, Within, Rests, threshold}
-use Rattle.threshold.proofs.Present.{lowest_is, highest_is, lowest-below, highest-below}
+use Rattle.threshold.proofs.Present.{lowest_is, highest_is, lowest_below, highest_below}
 use Rattle.threshold.proofs.Picks.{over_part, over_has, over_le, over_times}
-use Rattle.threshold.proofs.Rounds.{low_number, high_number, round-keeps-order, low-more, high-fewer, same-split}
+use Rattle.threshold.proofs.Rounds.{low_number, high_number, round_keeps_order, low_more, high_fewer, same_split}
 
 -- numbers above 0 that never rise, the first of them at most b, stand still within b steps
 falling_still : (b : ℕ) (f : ℕ → ℕ) → ((k : ℕ) → f (suc k) ≤ f k) → ((k : ℕ) → 0 < f k) → f 0 ≤ b
@@ -75,23 +75,23 @@ at_most_all n p = omega (arith, over_part n p one, sum_most 1 n one (λ v. omega
 
 module _ (h : List ℕ) (T U : Fraction) (pT : Proper T) (pU : Proper U) where
   -- the larger the threshold, the later its position
-  position-grows : NotMore T U → position h T ≤ position h U
+  position_grows : NotMore T U → position h T ≤ position h U
   unfolding position
-  position-grows l = omega (arith, low-more h T U pT pU l one, high-fewer h T U pT pU l one)
+  position_grows l = omega (arith, low_more h T U pT pU l one, high_fewer h T U pT pU l one)
 
   -- in one position a round gives one pair: in order
-  same-below : NotMore T U → position h T ≡ position h U → round h T ≡ round h U
+  same_below : NotMore T U → position h T ≡ position h U → round h T ≡ round h U
   unfolding position
-  same-below l e =
-      let x = low-more h T U pT pU l one in
-      let y = high-fewer h T U pT pU l one in
+  same_below l e =
+      let x = low_more h T U pT pU l one in
+      let y = high_fewer h T U pT pU l one in
       let z = at_most_all (length h) (high T) in
-      same-split h T U pT pU l one (λ v z. absurd (let none : ⊥ = omega (arith, z) in none)) (omega (arith, x, y, z)) (omega (arith, x, y, z))
+      same_split h T U pT pU l one (λ v z. absurd (let none : ⊥ = omega (arith, z) in none)) (omega (arith, x, y, z)) (omega (arith, x, y, z))
 
 -- and whichever of the two is larger
 same_position : (h : List ℕ) (T U : Fraction) → Proper T → Proper U → position h T ≡ position h U → round h T ≡ round h U
 same_position h T U pT pU e =
-    ⊎_elim (λ l. same-below h T U pT pU l e) (λ l. sym (same-below h U T pU pT l (sym e))) (either_way T U)
+    ⊎_elim (λ l. same_below h T U pT pU l e) (λ l. sym (same_below h U T pU pT l (sym e))) (either_way T U)
 
 -- m, or the nearest of two ends, lies from one end to the other
 nearest_within : (m g G : ℕ) → g ≤ G → (g ≤ nearest m g G) × (nearest m g G ≤ G)
@@ -109,8 +109,8 @@ where_some (suc c) x y l = mul-le-mul_right (suc c) (l (omega arith))
 
 module _ (h : List ℕ) (some : 0 < total h) where
   -- what is picked sums up to at least the lowest level each, and at most the highest
-  lowest-each : (p : ℕ → Bool) → sum_over (length h) p (count_of h) * lowest h ≤ sum_over (length h) p (level_sum h)
-  lowest-each p =
+  lowest_each : (p : ℕ → Bool) → sum_over (length h) p (count_of h) * lowest h ≤ sum_over (length h) p (level_sum h)
+  lowest_each p =
       omega (
         arith,
         over_le (length h) p (λ v. count_of h v * lowest h) (level_sum h)
@@ -118,8 +118,8 @@ module _ (h : List ℕ) (some : 0 < total h) where
         over_times (length h) p (count_of h) (lowest h),
       )
 
-  highest-each : (p : ℕ → Bool) → sum_over (length h) p (level_sum h) ≤ sum_over (length h) p (count_of h) * highest h
-  highest-each p =
+  highest_each : (p : ℕ → Bool) → sum_over (length h) p (level_sum h) ≤ sum_over (length h) p (count_of h) * highest h
+  highest_each p =
       omega (
         arith,
         over_le (length h) p (level_sum h) (λ v. count_of h v * highest h)
@@ -131,12 +131,12 @@ module _ (h : List ℕ) (some : 0 < total h) where
   module _ (T : Fraction) (w : Within h T) where
     low-has : (f : ℕ → ℕ) → f (lowest h) ≤ sum_over (length h) (low T) f
     low-has f =
-        over_has (length h) (low T) f (lowest h) (lowest-below h some)
+        over_has (length h) (low T) f (lowest h) (lowest_below h some)
         (le-leb (lowest h * T.denominator) T.numerator (omega (arith, w.from_lowest)))
 
     high-has : (f : ℕ → ℕ) → f (highest h) ≤ sum_over (length h) (high T) f
     high-has f =
-        over_has (length h) (high T) f (highest h) (highest-below h some)
+        over_has (length h) (high T) f (highest h) (highest_below h some)
         (le-leb T.numerator (highest h * T.denominator) (omega (arith, w.to_highest)))
 
     -- so there are levels on both sides
@@ -155,14 +155,14 @@ module _ (h : List ℕ) (some : 0 < total h) where
           from_lowest =
               omega (
                 arith,
-                mul-le-mul_right (high_number h T) (lowest-each (low T)),
-                mul-le-mul_right (low_number h T) (lowest-each (high T)),
+                mul-le-mul_right (high_number h T) (lowest_each (low T)),
+                mul-le-mul_right (low_number h T) (lowest_each (high T)),
               );
           to_highest =
               omega (
                 arith,
-                mul-le-mul_right (high_number h T) (highest-each (low T)),
-                mul-le-mul_right (low_number h T) (highest-each (high T)),
+                mul-le-mul_right (high_number h T) (highest_each (low T)),
+                mul-le-mul_right (low_number h T) (highest_each (high T)),
               );
         }
 
@@ -172,16 +172,16 @@ module _ (h : List ℕ) (some : 0 < total h) where
     position-within = omega (arith, low-has one, high-has one, at_most_all (length h) (low T), at_most_all (length h) (high T))
 
   -- the start and all that follows lie from the lowest to the highest level
-  pub start-within : (m : ℕ) → Within h (start m h)
+  pub start_within : (m : ℕ) → Within h (start m h)
   unfolding start
-  start-within m =
+  start_within m =
       let ends = nearest_within m (lowest h) (highest h) ((highest_is h some).most (lowest h) (lowest_is h some).holds) in
       record { proper = omega arith; from_lowest = omega (arith, ends.0); to_highest = omega (arith, ends.1) }
 
-  pub threshold-within : (m k : ℕ) → Within h (threshold m h k)
+  pub threshold_within : (m k : ℕ) → Within h (threshold m h k)
   unfolding threshold
-  threshold-within m zero = start-within m
-  threshold-within m (suc k) = round-within (threshold m h k) (threshold-within m k)
+  threshold_within m zero = start_within m
+  threshold_within m (suc k) = round-within (threshold m h k) (threshold_within m k)
 
   -- thresholds S of which each is what a round makes of the one before
   record Follows (S : ℕ → Fraction) : Type 0 where
@@ -194,7 +194,7 @@ module _ (h : List ℕ) (some : 0 < total h) where
   in_order S R s r l (suc k) =
       not_more_trans (S (suc k)) (round h (S k)) (R (suc k)) (round-within (S k) (s.within k)).proper (le_of_eq (sym (s.next k)))
       (not_more_trans (round h (S k)) (round h (R k)) (R (suc k)) (round-within (R k) (r.within k)).proper
-      (round-keeps-order h (S k) (R k) (s.within k).proper (r.within k).proper (in_order S R s r l k))
+      (round_keeps_order h (S k) (R k) (s.within k).proper (r.within k).proper (in_order S R s r l k))
       (le_of_eq (r.next k)))
 
   -- what rests follows itself
@@ -205,12 +205,12 @@ module _ (h : List ℕ) (some : 0 < total h) where
     -- a threshold of the sequence rests where a round gives it back
     pub given_back : (k : ℕ) → Equal (threshold m h (suc k)) (threshold m h k) → Rests h (threshold m h k)
     unfolding threshold
-    given_back k e = record { within = threshold-within m k; still = e }
+    given_back k e = record { within = threshold_within m k; still = e }
 
     -- the thresholds, and the thresholds after the start
     thresholds : Follows (threshold m h)
     unfolding threshold
-    thresholds = record { within = threshold-within m; next = λ k. refl }
+    thresholds = record { within = threshold_within m; next = λ k. refl }
 
     later : Follows (λ k. threshold m h (suc k))
     later = record { within = λ k. thresholds.within (suc k); next = λ k. thresholds.next (suc k) }
@@ -238,8 +238,8 @@ module _ (h : List ℕ) (some : 0 < total h) where
     rests-there k e =
         let T : Fraction = threshold m h k in
         let U : Fraction = threshold m h (suc k) in
-        let w : Within h U = threshold-within m (suc k) in
-        given_back (suc k) (subst (λ (R : Fraction). Equal R U) (same_position h T U (threshold-within m k).proper w.proper (sym e)) refl)
+        let w : Within h U = threshold_within m (suc k) in
+        given_back (suc k) (subst (λ (R : Fraction). Equal R U) (same_position h T U (threshold_within m k).proper w.proper (sym e)) refl)
 
     -- the positions go one way too
     positions-one-way : ((k : ℕ) → position h (threshold m h k) ≤ position h (threshold m h (suc k)))
@@ -248,10 +248,10 @@ module _ (h : List ℕ) (some : 0 < total h) where
         ⊎_elim (λ up. inl (λ k. grows k (suc k) (up k))) (λ down. inr (λ k. grows (suc k) k (down k))) one_way
       where
         grows : (j k : ℕ) → NotMore (threshold m h j) (threshold m h k) → position h (threshold m h j) ≤ position h (threshold m h k)
-        grows j k = position-grows h (threshold m h j) (threshold m h k) (threshold-within m j).proper (threshold-within m k).proper
+        grows j k = position_grows h (threshold m h j) (threshold m h k) (threshold_within m j).proper (threshold_within m k).proper
 
     -- so the sequence comes to rest, after at most 2·n − 1 rounds
     pub comes-to-rest : (k : ℕ) × (k ≤ 2 * length h - 1) × Rests h (threshold m h k)
     comes-to-rest =
-        let r = stands_still (2 * length h - 1) (λ k. position h (threshold m h k)) (λ k. position-within (threshold m h k) (threshold-within m k)) positions-one-way in
+        let r = stands_still (2 * length h - 1) (λ k. position h (threshold m h k)) (λ k. position-within (threshold m h k) (threshold_within m k)) positions-one-way in
         (suc r.0, r.1, rests-there r.0 r.2)

@@ -12,10 +12,10 @@ use Rattle.arithmetic.proofs.Greatest.{not_yet}
 use Rattle.threshold.specs.Histogram.{total}
 use Rattle.threshold.specs.TwoMeans.{level, highest, start, round, Within, threshold, answered, Done}
 use Rattle.threshold.specs.Asked.{Small}
-use Rattle.threshold.proofs.Present.{highest-below}
+use Rattle.threshold.proofs.Present.{highest_below}
 use Rattle.threshold.proofs.Rounds.{same_pair}
 use Rattle.threshold.proofs.Tables.{denominator_small}
-use Rattle.threshold.proofs.Sequence.{low-some, high-some, start-within, threshold-within, given_back, comes-to-rest}
+use Rattle.threshold.proofs.Sequence.{low-some, high-some, start_within, threshold_within, given_back, comes-to-rest}
 use Rattle.threshold.proofs.Demand.{RestsAt, settled}
 
 -- Before a test of the loop: `next` is the threshold after the k-th, none before the k-th rests, and `t` and `next` are one pair exactly
@@ -28,22 +28,22 @@ pub record Going (m : ℕ) (h : List ℕ) (k : ℕ) (t next : Fraction) : Type 0
 
 module _ (m : ℕ) (h : List ℕ) (some : 0 < total h) where
   -- from a level that is the start a round can be made
-  pub first-within : (v : ℕ) → level v ≡ start m h → Within h (level v)
-  first-within v is-start = rw is-start (start-within h some m)
+  pub first_within : (v : ℕ) → level v ≡ start m h → Within h (level v)
+  first_within v is-start = rw is-start (start_within h some m)
 
   -- written over the first round's denominator, it has room
-  pub first-room : Small h → (v : ℕ) (next : Fraction) → level v ≡ start m h → next ≡ round h (level v)
+  pub first_room : Small h → (v : ℕ) (next : Fraction) → level v ≡ start m h → next ≡ round h (level v)
       → v * next.denominator ≤ 2048 * 2199023255552
-  first-room small v next is-start is-round =
-      let at : v * 1 ≤ highest h * 1 = (first-within v is-start).to_highest in
-      let most : v ≤ 2048 = omega (arith, highest-below h some, small.levels) in
+  first_room small v next is-start is-round =
+      let at : v * 1 ≤ highest h * 1 = (first_within v is-start).to_highest in
+      let most : v ≤ 2048 = omega (arith, highest_below h some, small.levels) in
       rw is-round (mul-le-mul most (denominator_small h (level v) small))
 
   -- and is told from the first round by its pair
-  pub going-first : (v : ℕ) (next : Fraction) → level v ≡ start m h → next ≡ round h (level v)
+  pub going_first : (v : ℕ) (next : Fraction) → level v ≡ start m h → next ≡ round h (level v)
       → Going m h 0 (fraction (v * next.denominator) next.denominator) next
   unfolding threshold
-  going-first v next is-start is-round =
+  going_first v next is-start is-round =
       record {
         is_next = is-round ∙ ap (round h) is-start;
         not_before = λ j r. zero-le;
@@ -56,8 +56,8 @@ module _ (m : ℕ) (h : List ℕ) (some : 0 < total h) where
       }
 
   -- from the next threshold a round can be made
-  pub next-within : {k : ℕ} {t next : Fraction} → Going m h k t next → Within h next
-  next-within {k} g = rw g.is_next (threshold-within h some m (suc k))
+  pub next_within : {k : ℕ} {t next : Fraction} → Going m h k t next → Within h next
+  next_within {k} g = rw g.is_next (threshold_within h some m (suc k))
 
   -- one round more
   pub going_on : (k : ℕ) (t next after : Fraction) → Going m h k t next → ¬ (t ≡ next) → after ≡ round h next → Going m h (k + 1) next after
@@ -72,23 +72,23 @@ module _ (m : ℕ) (h : List ℕ) (some : 0 < total h) where
     where
       same-again : RestsAt m h (suc k) → round h (threshold m h (suc k)) ≡ round h (threshold m h k)
       same-again r =
-          let w = threshold-within h some m (suc k) in
-          let u = threshold-within h some m k in
+          let w = threshold_within h some m (suc k) in
+          let u = threshold_within h some m k in
           same_pair h (threshold m h (suc k)) (threshold m h k) w.proper u.proper
           (low-some h some (threshold m h (suc k)) w) (high-some h some (threshold m h (suc k)) w)
           (low-some h some (threshold m h k) u) (high-some h some (threshold m h k) u)
           r.still
 
   -- there is a round more to go only before the last that may come
-  pub still-time : (k : ℕ) (t next : Fraction) → Going m h k t next → ¬ (t ≡ next) → k < 2 * length h - 1
-  still-time k t next g moved =
+  pub still_time : (k : ℕ) (t next : Fraction) → Going m h k t next → ¬ (t ≡ next) → k < 2 * length h - 1
+  still_time k t next g moved =
       let r = comes-to-rest h some m in
       omega (arith, r.1, not_yet g.not_before (λ now. moved (g.rests_same now)) r.0 r.2)
 
   -- at rest
-  pub going-ends : (k : ℕ) (t next : Fraction) → Going m h k t next → t ≡ next → Done m h (answered 0 k next)
+  pub going_ends : (k : ℕ) (t next : Fraction) → Going m h k t next → t ≡ next → Done m h (answered 0 k next)
   unfolding threshold
-  going-ends k t next g e =
+  going_ends k t next g e =
       record {
         number = refl;
         settled = rw g.is_next (settled m h some k (record { holds = g.same_rests e; least = g.not_before }));

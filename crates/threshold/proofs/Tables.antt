@@ -17,7 +17,7 @@ use Rattle.arithmetic.proofs.Sums.{sum_none, sum_more, sum_most, sum_same, sum_p
 use Rattle.threshold.specs.Histogram.{count_of, total}
 use Rattle.threshold.specs.TwoMeans.{highest, low, high, level_sum, round, Within}
 use Rattle.threshold.specs.Asked.{Filled, Tables, Small}
-use Rattle.threshold.proofs.Present.{highest-below}
+use Rattle.threshold.proofs.Present.{highest_below}
 use Rattle.threshold.proofs.Picks.{over_rest, over_part}
 use Rattle.threshold.proofs.Rounds.{low_sum, low_number, high_sum, high_number}
 
@@ -57,11 +57,11 @@ right_up_to n s =
 
 -- and where the two are right, those of both are written
 module _ {h below sums : List ℕ} {v : ℕ} (f : Filled h v below sums) where
-  below-written : Table (number_below h) h below v
-  below-written = record { places = f.below_long; are = λ k b. f.below_are k (omega arith) }
+  below_written : Table (number_below h) h below v
+  below_written = record { places = f.below_long; are = λ k b. f.below_are k (omega arith) }
 
-  sums-written : Table (sum_below h) h sums v
-  sums-written = record { places = f.sums_long; are = λ k b. f.sums_are k (omega arith) }
+  sums_written : Table (sum_below h) h sums v
+  sums_written = record { places = f.sums_long; are = λ k b. f.sums_are k (omega arith) }
 
 -- nothing lies below level 0
 pub filling_none : (h below sums : List ℕ) → length below ≡ length h + 1 → length sums ≡ length h + 1 → Filling h 0 (set below 0 0) (set sums 0 0) 0 0
@@ -79,23 +79,23 @@ filling_none h below sums long-below long-sums =
 
 module _ {h below sums : List ℕ} {v number added : ℕ} (so_far : Filling h v below sums number added) where
   -- one level more
-  pub filling-more : v < length h → let number' = number + count_of h v in let added' = added + level_sum h v in
+  pub filling_more : v < length h → let number' = number + count_of h v in let added' = added + level_sum h v in
       Filling h (v + 1) (set below (v + 1) number') (set sums (v + 1) added') number' added'
-  filling-more turn =
+  filling_more turn =
       let number_is : number + count_of h v ≡ number_below h (v + 1) = omega (arith, so_far.number_is, sum_more v (count_of h)) in
       let added_is : added + level_sum h v ≡ sum_below h (v + 1) = omega (arith, so_far.added_is, sum_more v (level_sum h)) in
       record {
         filled =
             right_up_to
-            (written_more (number_below h) below (v + 1) _ (omega arith) number_is (below-written so_far.filled))
-            (written_more (sum_below h) sums (v + 1) _ (omega arith) added_is (sums-written so_far.filled));
+            (written_more (number_below h) below (v + 1) _ (omega arith) number_is (below_written so_far.filled))
+            (written_more (sum_below h) sums (v + 1) _ (omega arith) added_is (sums_written so_far.filled));
         number_is = number_is;
         added_is = added_is;
       }
 
   -- no level is left
-  pub filling-all : v ≤ length h → length h ≤ v → Tables h below sums
-  filling-all up_to_lem past = let e : v ≡ length h = omega arith in rw e at so_far.filled
+  pub filling_all : v ≤ length h → length h ≤ v → Tables h below sums
+  filling_all up_to_lem past = let e : v ≡ length h = omega arith in rw e at so_far.filled
 
   -- with counts of 32 bits at 2,048 levels, what is stored fits 64 bits
   module _ (counts : AtMost 4294967295 h) (levels : length h ≤ 2048) (turn : v < length h) where
@@ -118,14 +118,14 @@ pub record Cut (p : ℕ → Bool) (k : ℕ) : Type 0 where
 
 module _ {p : ℕ → Bool} {k : ℕ} (cut : Cut p k) (f : ℕ → ℕ) where
   -- d levels more, which it does not pick
-  cut-then : (d : ℕ) → sum_over (k + d) p f ≡ sum k f
+  cut_then : (d : ℕ) → sum_over (k + d) p f ≡ sum k f
   unfolding sum sum_over
-  cut-then zero = let e : k + 0 ≡ k = omega arith in rw e (sum_same k (λ v. cond (p v) (f v) 0) f (λ v b. rw (cut.below v b)))
-  cut-then (suc d) = let e : k + suc d ≡ suc (k + d) = omega arith in rw (e, cut.past (k + d) (omega arith)) (omega (arith, cut-then d))
+  cut_then zero = let e : k + 0 ≡ k = omega arith in rw e (sum_same k (λ v. cond (p v) (f v) 0) f (λ v b. rw (cut.below v b)))
+  cut_then (suc d) = let e : k + suc d ≡ suc (k + d) = omega arith in rw (e, cut.past (k + d) (omega arith)) (omega (arith, cut_then d))
 
   -- it sums up what lies below k
   cut_sum : {n : ℕ} → k ≤ n → sum_over n p f ≡ sum k f
-  cut_sum {n} in-it = let e : n ≡ k + (n - k) = omega arith in rw e (cut-then (n - k))
+  cut_sum {n} in-it = let e : n ≡ k + (n - k) = omega arith in rw e (cut_then (n - k))
 
 -- T's whole part
 abbrev pub whole : Fraction → ℕ
@@ -133,31 +133,31 @@ whole T = T.numerator / T.denominator
 
 module _ (T : Fraction) (proper : Proper T) where
   -- a level past it is past T
-  past-whole : (v : ℕ) → whole T + 1 ≤ v → T.numerator < v * T.denominator
-  past-whole v h = (div-lt_iff_lt-mul proper).0 (omega arith)
+  past_whole : (v : ℕ) → whole T + 1 ≤ v → T.numerator < v * T.denominator
+  past_whole v h = (div-lt_iff_lt-mul proper).0 (omega arith)
 
   -- the levels up to T are those up to its whole part
-  low-cut : Cut (low T) (whole T + 1)
-  low-cut =
+  low_cut : Cut (low T) (whole T + 1)
+  low_cut =
       record {
         below = λ v h. le-leb (v * T.denominator) T.numerator ((le-div_iff_mul-le proper).0 (omega arith));
-        past = λ v h. lt-leb (v * T.denominator) T.numerator (past-whole v h);
+        past = λ v h. lt-leb (v * T.denominator) T.numerator (past_whole v h);
       }
 
   -- the levels that are not from T on are those below it, where it is whole
-  high-cut-whole : whole T * T.denominator ≡ T.numerator → Cut (λ v. not (high T v)) (whole T)
-  high-cut-whole exact =
+  high_cut_whole : whole T * T.denominator ≡ T.numerator → Cut (λ v. not (high T v)) (whole T)
+  high_cut_whole exact =
       record {
         below = λ v (h : v < whole T). rw (lt-leb T.numerator (v * T.denominator) (omega (arith, exact, mul-le-mul_right T.denominator h)));
         past = λ v (h : whole T ≤ v). rw (le-leb T.numerator (v * T.denominator) (omega (arith, exact, mul-le-mul_right T.denominator h)));
       }
 
   -- and those up to its whole part, where it is not
-  high-cut-part : ¬ (whole T * T.denominator ≡ T.numerator) → Cut (λ v. not (high T v)) (whole T + 1)
-  high-cut-part between =
+  high_cut_part : ¬ (whole T * T.denominator ≡ T.numerator) → Cut (λ v. not (high T v)) (whole T + 1)
+  high_cut_part between =
       record {
         below = λ v (h : v < whole T + 1). rw (lt-leb T.numerator (v * T.denominator) (less v (omega arith)));
-        past = λ v h. rw (le-leb T.numerator (v * T.denominator) (le_of_lt (past-whole v h)));
+        past = λ v h. rw (le-leb T.numerator (v * T.denominator) (le_of_lt (past_whole v h)));
       }
     where
       less : (v : ℕ) → v ≤ whole T → v * T.denominator < T.numerator
@@ -175,17 +175,17 @@ module _ (h : List ℕ) (T : Fraction) (some : 0 < total h) (within : Within h T
   pub whole_in : whole T + 1 ≤ length h
   whole_in =
       let to_highest : whole T < highest h + 1 = (div-lt_iff_lt-mul within.proper).1 (omega (arith, within.to_highest)) in
-      omega (arith, highest-below h some)
+      omega (arith, highest_below h some)
 
   placed : {from : ℕ} → from ≤ whole T + 1 → Cut (λ v. not (high T v)) from → Places h T from
-  placed le is = record { up_to_in = whole_in; from_in = le_trans le whole_in; up_to_is = low-cut T within.proper; from_is = is }
+  placed le is = record { up_to_in = whole_in; from_in = le_trans le whole_in; up_to_is = low_cut T within.proper; from_is = is }
 
   -- T is a level itself, or it is not
-  pub places-whole : {from : ℕ} → whole T * T.denominator ≡ T.numerator → from ≡ whole T → Places h T from
-  places-whole exact is = placed (omega arith) (rw is (high-cut-whole T within.proper exact))
+  pub places_whole : {from : ℕ} → whole T * T.denominator ≡ T.numerator → from ≡ whole T → Places h T from
+  places_whole exact is = placed (omega arith) (rw is (high_cut_whole T within.proper exact))
 
-  pub places-part : {from : ℕ} → ¬ (whole T * T.denominator ≡ T.numerator) → from ≡ whole T + 1 → Places h T from
-  places-part between is = placed (omega arith) (rw is (high-cut-part T within.proper between))
+  pub places_part : {from : ℕ} → ¬ (whole T * T.denominator ≡ T.numerator) → from ≡ whole T + 1 → Places h T from
+  places_part between is = placed (omega arith) (rw is (high_cut_part T within.proper between))
 
 -- what is read there, from either table
 module _ (f : ℕ → ℕ) (h table : List ℕ) (right : (v : ℕ) → v ≤ length h → get_or table v 0 ≡ sum v f) {T : Fraction} {from : ℕ} (at : Places h T from) where
@@ -213,8 +213,8 @@ module _ {h : List ℕ} (small : Small h) {k : ℕ} (in-it : k ≤ length h) whe
   unfolding total
   number_small = le_trans (sum_part (count_of h) in-it) small.values
 
-  sum-small : sum k (level_sum h) ≤ 2147483648
-  sum-small = omega (arith, sum_of_levels k (count_of h), mul-le-mul {n₁ = k} {n₂ = 2048} (omega (arith, small.levels)) number_small)
+  sum_small : sum k (level_sum h) ≤ 2147483648
+  sum_small = omega (arith, sum_of_levels k (count_of h), mul-le-mul {n₁ = k} {n₂ = 2048} (omega (arith, small.levels)) number_small)
 
 -- A, B, C, E of a round, and that what is made of them fits 64 bits
 pub record Read (h : List ℕ) (T : Fraction) (a b c e : ℕ) : Type 0 where
@@ -238,8 +238,8 @@ ReadFrom h below sums T from =
 
 module _ {h below sums : List ℕ} (tables : Tables h below sums) {T : Fraction} {from : ℕ} (at : Places h T from) where
   -- nothing is taken from less
-  pub sums-in : get_or sums from 0 ≤ get_or sums (length h) 0
-  sums-in = omega (arith, high_read (level_sum h) h sums tables.sums_are at)
+  pub sums_in : get_or sums from 0 ≤ get_or sums (length h) 0
+  sums_in = omega (arith, high_read (level_sum h) h sums tables.sums_are at)
 
   pub below_in : get_or below from 0 ≤ get_or below (length h) 0
   below_in = omega (arith, high_read (count_of h) h below tables.below_are at)
@@ -249,9 +249,9 @@ module _ {h below sums : List ℕ} (tables : Tables h below sums) {T : Fraction}
       let n = length h in
       let u = whole T + 1 in
       let all : n ≤ n = le_refl n in
-      let a_small : get_or sums u 0 ≤ 2147483648 = omega (arith, tables.sums_are u at.up_to_in, sum-small small at.up_to_in) in
+      let a_small : get_or sums u 0 ≤ 2147483648 = omega (arith, tables.sums_are u at.up_to_in, sum_small small at.up_to_in) in
       let b_small : get_or below u 0 ≤ 1048576 = omega (arith, tables.below_are u at.up_to_in, number_small small at.up_to_in) in
-      let c-small : get_or sums n 0 - get_or sums from 0 ≤ 2147483648 = omega (arith, tables.sums_are n all, sum-small small all) in
+      let c-small : get_or sums n 0 - get_or sums from 0 ≤ 2147483648 = omega (arith, tables.sums_are n all, sum_small small all) in
       let e-small : get_or below n 0 - get_or below from 0 ≤ 1048576 = omega (arith, tables.below_are n all, number_small small all) in
       record {
         a_is = low_read (level_sum h) h sums tables.sums_are at;

@@ -9,7 +9,7 @@ use Rattle.records.proofs.Reading.{Before, none_yet, all_read}
 use Rattle.gongspindle.specs.declared.look.Found.{Found}
 use Rattle.gongspindle.specs.declared.look.Found.TheVariants.{Good, End, Bad}
 use Rattle.gongspindle.specs.Program.{FoundIs}
-use Rattle.gongspindle.proofs.Findings.{Onward, past-good}
+use Rattle.gongspindle.proofs.Findings.{Onward, past_good}
 use Rattle.gongspindle.proofs.report.Statement.{statement}
 use Rattle.gongspindle.proofs.report.Tie as tie
 
@@ -32,7 +32,7 @@ onward c =
     let turn = c.before.before.before in
     let said = c.said.given.0.0 in
     let next = c.said.given.0.1.0 in
-    past-good _ _ said next turn.loop.invariant.0 (found c.before.before (Good said next) c.said.given.1)
+    past_good _ _ said next turn.loop.invariant.0 (found c.before.before (Good said next) c.said.given.1)
 
 loop-holds : tie.Need-loop-init invariant-loop decreases-loop
 loop-holds c = (none_yet _, omega arith, omega arith)

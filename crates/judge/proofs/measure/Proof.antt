@@ -11,7 +11,7 @@ use Rattle.answers.proofs.Refusals.{told_no, told_yes}
 use Rattle.picture.proofs.Shapes.{pixels}
 use Rattle.filter.proofs.Outcomes.{Fits, fits}
 use Rattle.judge.specs.Measure.{MeasurableSide}
-use Rattle.judge.proofs.Measuring.{refused-for-sizes, refused-by-five, tiled, done}
+use Rattle.judge.proofs.Measuring.{refused_for_sizes, refused-by-five, tiled, done}
 use Rattle.judge.proofs.measure.Statement.{statement}
 use Rattle.judge.proofs.measure.Tie as tie
 
@@ -25,7 +25,7 @@ returns : tie.Need-returns
 returns c =
     let s = c.before.before in
     let a = s.before.before.before.before.args in
-    refused-for-sizes a.levels.now a.width a.height a.output.now a.work.now s.sizes.result c.refuse.result c.before.if1.true c.refuse.ensures s.sizes.ensures
+    refused_for_sizes a.levels.now a.width a.height a.output.now a.work.now s.sizes.result c.refuse.result c.before.if1.true c.refuse.ensures s.sizes.ensures
 
 -- past the first test the sizes fit
 fit : (c : tie.Else1) → let a = c.before.before.before.before.before.args in Fits (length a.levels.now) a.width a.height (length a.output.now) (length a.work.now)

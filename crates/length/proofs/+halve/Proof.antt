@@ -5,7 +5,7 @@ use native.Mathlib.Omega.{arith}
 use native.Mathlib.Nat.{mul-le-mul, not-le_of_lt}
 use borrow.Fn.Kinds.{In}
 use borrow.Fn.PlainCycle.{Measures, is, falls, and}
-use Rattle.arithmetic.proofs.Greatest.{not-empty, upper-half, lower-half, narrowed}
+use Rattle.arithmetic.proofs.Greatest.{not_empty, upper_half, lower_half, narrowed}
 use Rattle.length.proofs.Laws.{falling}
 use Rattle.length.proofs.halve.Reads as halve
 use Rattle.length.proofs.halve.Kinds as halve-kinds
@@ -27,16 +27,16 @@ abbrev halve-below : ℕ → In 0 halve-kinds.ps
 halve-below t = and 0 halve-kinds.ps (falls 0 halve-kinds.ps ◌<◌ μ-halve t) halve.Pre
 
 halve-sub-if1 : (t : ℕ) → halve-lts.Need-overflow-sub-if1 (halve-below t, halve.Post) (halve-at t) halve.Post
-halve-sub-if1 t c = omega (arith, not-empty c.requires.1.0)
+halve-sub-if1 t c = omega (arith, not_empty c.requires.1.0)
 
 halve-returns : (t : ℕ) → halve-lts.Need-returns (halve-below t, halve.Post) (halve-at t) halve.Post
 halve-returns t c = narrowed c.before.requires.1.0 (omega arith)
 
 halve-sub-mid : (t : ℕ) → halve-lts.Need-overflow-sub-mid (halve-below t, halve.Post) (halve-at t) halve.Post
-halve-sub-mid t c = omega (arith, not-empty c.before.requires.1.0)
+halve-sub-mid t c = omega (arith, not_empty c.before.requires.1.0)
 
 halve-add-mid : (t : ℕ) → halve-lts.Need-overflow-add-mid (halve-below t, halve.Post) (halve-at t) halve.Post
-halve-add-mid t c = omega (arith, not-empty c.before.requires.1.0)
+halve-add-mid t c = omega (arith, not_empty c.before.requires.1.0)
 
 halve-mul-if2 : (t : ℕ) → halve-lts.Need-overflow-mul-if2 (halve-below t, halve.Post) (halve-at t) halve.Post
 halve-mul-if2 t c = omega (arith, room c.before.args.lo c.before.args.hi (omega arith))
@@ -47,12 +47,12 @@ halve-mul-if2-2 t c = omega (arith, room c.before.args.lo c.before.args.hi (omeg
 halve-halve-requires : (t : ℕ) → halve-lts.Need-halve-requires (halve-below t, halve.Post) (halve-at t) halve.Post
 halve-halve-requires t c κs =
     let s = c.before.before in
-    (omega arith, (upper-half s.requires.1.0 c.if2.true, s.requires.1.1))
+    (omega arith, (upper_half s.requires.1.0 c.if2.true, s.requires.1.1))
 
 halve-halve-requires-2 : (t : ℕ) → halve-lts.Need-halve-requires-2 (halve-below t, halve.Post) (halve-at t) halve.Post
 halve-halve-requires-2 t c κs =
     let s = c.before.before in
-    (omega arith, (lower-half s.requires.1.0 (falling s.args.t) (not-le_of_lt c.if2.false), omega arith))
+    (omega arith, (lower_half s.requires.1.0 (falling s.args.t) (not-le_of_lt c.if2.false), omega arith))
 
 halve-returns-2 : (t : ℕ) → halve-lts.Need-returns-2 (halve-below t, halve.Post) (halve-at t) halve.Post
 halve-returns-2 t c = c.halve.ensures

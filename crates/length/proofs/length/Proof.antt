@@ -8,7 +8,7 @@ use borrow.Author.Rules.{rules}
 use Rattle.arithmetic.specs.Signed.{nat_of}
 use Rattle.answers.proofs.Refusals.{stops}
 use Rattle.length.specs.Length.{InRange}
-use Rattle.length.proofs.Laws.{Ranged, to_natural, product, squared, start, is-the-length}
+use Rattle.length.proofs.Laws.{Ranged, to_natural, product, squared, start, is_the_length}
 use Rattle.length.proofs.length.Statement.{statement}
 use Rattle.length.proofs.length.Tie as tie
 
@@ -79,7 +79,7 @@ returns-5 c =
     let e = c.before.before in
     let told = e.before.before.before.before in
     let a = told.before.before.before.args in
-    is-the-length a.factor a.pixel
+    is_the_length a.factor a.pixel
     (rw (← factor told, ← told.amount2.ensures) (ranged e))
     (record { number = 0; length = c.of.result })
     refl

@@ -6,7 +6,7 @@ use native.Mathlib.Omega.{arith}
 use borrow.Author.Rules.{rules}
 use lib.Seq.{length-take-le}
 use Rattle.answers.proofs.Refusals.{stops, told_no, told_yes}
-use Rattle.memory.proofs.Memories.{no-levels, no-halves, ranges-told}
+use Rattle.memory.proofs.Memories.{no_levels, no_halves, ranges_told}
 use Rattle.memory.proofs.in_range.Statement.{statement}
 use Rattle.memory.proofs.in_range.Tie as tie
 
@@ -19,13 +19,13 @@ module _ (levels : tie.After-at-most) where
   rows = levels.before.before.before.args.rows.now
 
 returns : tie.Need-returns
-returns c = let levels = c.before in stops (no-levels (w levels) (rows levels) (told_no levels.at_most.ensures c.if1.true)) refl
+returns c = let levels = c.before in stops (no_levels (w levels) (rows levels) (told_no levels.at_most.ensures c.if1.true)) refl
 
 returns-2 : tie.Need-returns-2
 returns-2 c =
     let halves = c.before in
     let levels = halves.before.before.before in
-    stops (no-halves (w levels) (rows levels) (told_no halves.at-most2.ensures c.if2.true)) refl
+    stops (no_halves (w levels) (rows levels) (told_no halves.at-most2.ensures c.if2.true)) refl
 
 returns-3 : tie.Need-returns-3
 returns-3 c =
@@ -33,7 +33,7 @@ returns-3 c =
     let halves = halves-pass.before in
     let levels-pass = halves.before.before in
     let levels = levels-pass.before in
-    ranges-told (w levels) (rows levels) _
+    ranges_told (w levels) (rows levels) _
     (told_yes levels.at_most.ensures levels-pass.if1.false)
     (told_yes halves.at-most2.ensures halves-pass.if2.false)
     c.at-most3.ensures

@@ -8,7 +8,7 @@ use Rattle.answers.specs.Refusals.{Unless}
 use Rattle.answers.proofs.Refusals.{stops, goes_on}
 use Rattle.arithmetic.specs.Bytes.{byte}
 use Rattle.records.specs.Records.{Known, body_length, by_kind}
-use Rattle.records.proofs.Bodies.{told-unknown, told-known}
+use Rattle.records.proofs.Bodies.{told_unknown, told_known}
 use Rattle.records.proofs.record_at.Statement.{statement}
 use Rattle.records.proofs.record_at.Tie as tie
 
@@ -20,7 +20,7 @@ begun c rest = goes_on (omega arith) (goes_on (omega arith) rest)
 -- past the third the kind is known, and so is the length of its body
 known : (c : tie.Else3) → let a = c.before.before.before.before.before.before.args in
     Known (byte a.input.now a.at) × (c.before.body-length.result ≡ body_length (byte a.input.now a.at))
-known c = told-known c.before.body-length.ensures c.if3.false
+known c = told_known c.before.body-length.ensures c.if3.false
 
 returns : tie.Need-returns
 returns c = stops (λ ok. omega arith) refl
@@ -35,7 +35,7 @@ body-length-requires : tie.Need-body-length-requires
 body-length-requires c κs = search rules
 
 returns-3 : tie.Need-returns-3
-returns-3 c = begun c.before.before.before (stops (told-unknown c.before.body-length.ensures c.if3.true) refl)
+returns-3 c = begun c.before.before.before (stops (told_unknown c.before.body-length.ensures c.if3.true) refl)
 
 add_start : tie.Need-overflow-add-start
 add_start c = search rules

@@ -6,7 +6,7 @@ use lib.ListN.{length}
 use mir.Syntax.{w64}
 use mir.ValLaws.{to_z-of_z}
 use Rattle.answers.proofs.Refusals.{stops, goes_on, told_no, told_yes}
-use Rattle.picture.proofs.Shapes.{WellShaped, passes_both, well-shaped, misshapen, pixels}
+use Rattle.picture.proofs.Shapes.{WellShaped, passes_both, well_shaped, misshapen, pixels}
 use Rattle.sample.specs.declared.Coordinate.{Coordinate}
 use Rattle.sample.specs.Cubic.{sampled, refused}
 use Rattle.sample.specs.Asked.{Surrounded, Around}
@@ -29,7 +29,7 @@ returns c =
 
 -- past the first test the picture has its shape
 fit : (c : tie.Else1) → let a = c.before.before.before.args in WellShaped (length a.levels.now) a.width a.height
-fit c = well-shaped _ _ _ c.before.shape.result (omega arith) c.before.shape.ensures
+fit c = well_shaped _ _ _ c.before.shape.result (omega arith) c.before.shape.ensures
 
 locate-requires : tie.Need-locate-requires
 locate-requires c κs = search rules

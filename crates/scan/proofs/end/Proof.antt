@@ -13,7 +13,7 @@ use Rattle.memory.specs.Memory.{width_of, height_of, came_of, memory, zeros, Beg
 use Rattle.memory.proofs.Memories.{length_rows}
 use Rattle.memory.proofs.Outcomes.{when_starts}
 use Rattle.scan.proofs.SixRows.{count_again}
-use Rattle.scan.proofs.Calls.{refused_is, end-ready, end-coming, end-done}
+use Rattle.scan.proofs.Calls.{refused_is, end_ready, end-coming, end-done}
 use Rattle.scan.proofs.end.Statement.{statement}
 use Rattle.scan.proofs.end.Tie as tie
 
@@ -89,7 +89,7 @@ take-rows-requires c κs =
     let passed = c.before.before.before in
     let begun = begun₀ passed in
     let last = is_last (last₀ passed) in
-    (end-ready (held begun) (is-begun begun) last, end-coming (held begun) (is-begun begun) last (output begun) (room passed))
+    (end_ready (held begun) (is-begun begun) last, end-coming (held begun) (is-begun begun) last (output begun) (room passed))
 
 -- ---- where the memory begins anew
 module _ (anew : tie.After-start) where

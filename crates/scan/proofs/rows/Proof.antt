@@ -12,7 +12,7 @@ use Rattle.arithmetic.specs.Lists.{AtMost}
 use Rattle.answers.proofs.Refusals.{stops, goes_on, told_no, told_yes}
 use Rattle.memory.specs.Memory.{width_of, height_of, came_of, Begun}
 use Rattle.scan.specs.Scan.{due}
-use Rattle.scan.proofs.Calls.{refused_is, less_of, is-ready, is-coming, rows-done}
+use Rattle.scan.proofs.Calls.{refused_is, less_of, is_ready, is-coming, rows-done}
 use Rattle.scan.proofs.rows.Statement.{statement}
 use Rattle.scan.proofs.rows.Tie as tie
 
@@ -124,7 +124,7 @@ take-rows-requires c κs =
     let begun = begun₀ passed in
     let within = within₀ passed in
     let came = few (whole within).before in (
-      is-ready (held begun) (is-begun begun) came,
+      is_ready (held begun) (is-begun begun) came,
       is-coming (held begun) (is-begun begun) (levels begun) (output begun) (bytes begun) came (whole within).if2.left (is_within within)
           (room passed),
     )

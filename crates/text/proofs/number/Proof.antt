@@ -2,7 +2,7 @@
 use Rattle.std.proofs.Common.{◌<◌, length, refl, arith, lit≤, rules}
 use Rattle.answers.proofs.Refusals.{stops}
 use Rattle.text.specs.Text.{Spelled}
-use Rattle.text.proofs.Putting.{place_after, after-put}
+use Rattle.text.proofs.Putting.{place_after, after_put}
 use Rattle.text.proofs.number.Statement.{statement}
 use Rattle.text.proofs.number.Tie as tie
 
@@ -37,7 +37,7 @@ returns-3 : tie.Need-returns-3
 returns-3 c =
     let after-digits = c.before.before in
     let given = after-digits.before.before.before.before.before.args in
-    after-put (Spelled given.n) 20 given.block.now _ given.at given.after _ (lit≤ tt) (omega arith)
+    after_put (Spelled given.n) 20 given.block.now _ given.at given.after _ (lit≤ tt) (omega arith)
     after-digits.digits.ensures
 
 pub number-spec : {M : Type 1} → statement M

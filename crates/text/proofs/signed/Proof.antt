@@ -4,7 +4,7 @@ use mir.ValLaws.{to_z-of_z}
 use Rattle.answers.proofs.Refusals.{stops}
 use Rattle.text.specs.Text.{SpelledSigned, block}
 use Rattle.text.specs.Inside.{Digits}
-use Rattle.text.proofs.Putting.{place_after, after-put}
+use Rattle.text.proofs.Putting.{place_after, after_put}
 use Rattle.text.proofs.signed.Statement.{statement}
 use Rattle.text.proofs.signed.Tie as tie
 
@@ -50,7 +50,7 @@ returns-3 : tie.Need-returns-3
 returns-3 c =
     let after-digits = c.before.before in
     let given = after-digits.before.before.before.before.before.args in
-    after-put (SpelledSigned given.v) 21 given.block.now _ given.at given.after _ (lit≤ tt) (omega arith)
+    after_put (SpelledSigned given.v) 21 given.block.now _ given.at given.after _ (lit≤ tt) (omega arith)
     (spelled after-digits)
 
 pub signed-spec : {M : Type 1} → statement M

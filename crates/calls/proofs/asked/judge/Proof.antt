@@ -5,7 +5,7 @@ use Rattle.units.specs.declared.Eighths.{Eighths}
 use Prim.Native.Nat.{ℕ}
 use Rattle.units.specs.Units.{eighths}
 use Rattle.judge.specs.Judge.{JudgeIs}
-use Rattle.calls.proofs.Laws.{all-four-are}
+use Rattle.calls.proofs.Laws.{all_four_are}
 use Rattle.calls.proofs.asked.judge.Statement.{statement}
 use Rattle.calls.proofs.asked.judge.Tie as tie
 
@@ -36,7 +36,7 @@ returns c =
     let after-count = after-spread.before.before in
     let after-dark = after-count.before.before in
     let after-bright = after-dark.before.before.before in
-    all-four-are (λ (count : ℕ) (bright dark : Eighths) (spread : ℕ). JudgeIs count bright dark spread c.judge.result)
+    all_four_are (λ (count : ℕ) (bright dark : Eighths) (spread : ℕ). JudgeIs count bright dark spread c.judge.result)
     after-count.number3.ensures
     (after-bright.of.ensures ∙ ap eighths after-bright.before.number.ensures)
     (after-dark.of2.ensures ∙ ap eighths after-dark.before.number2.ensures)

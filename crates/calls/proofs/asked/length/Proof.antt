@@ -5,7 +5,7 @@ use Rattle.units.specs.declared.Sixteenths.{Sixteenths}
 use Rattle.units.specs.declared.Picometres.{Picometres}
 use Rattle.units.specs.Units.{picometres}
 use Rattle.length.specs.Length.{LengthIs}
-use Rattle.calls.proofs.Laws.{both-are}
+use Rattle.calls.proofs.Laws.{both_are}
 use Rattle.calls.proofs.asked.length.Statement.{statement}
 use Rattle.calls.proofs.asked.length.Tie as tie
 
@@ -25,7 +25,7 @@ returns : tie.Need-returns
 returns c =
     let after-pixel = c.before in
     let after-factor = after-pixel.before.before.before in
-    both-are (λ (factor : Sixteenths) (pixel : Picometres). LengthIs factor pixel c.length.result)
+    both_are (λ (factor : Sixteenths) (pixel : Picometres). LengthIs factor pixel c.length.result)
     after-factor.signed.ensures
     (after-pixel.of.ensures ∙ ap picometres after-pixel.before.number.ensures)
     c.length.ensures

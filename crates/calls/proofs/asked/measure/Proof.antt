@@ -2,7 +2,7 @@
 use borrow.Author.Rules.{rules}
 use Prim.Native.Nat.{ℕ}
 use Rattle.judge.specs.Measure.{MeasureIs, measurement}
-use Rattle.calls.proofs.Laws.{both-are}
+use Rattle.calls.proofs.Laws.{both_are}
 use Rattle.calls.proofs.asked.measure.Statement.{statement}
 use Rattle.calls.proofs.asked.measure.Tie as tie
 
@@ -29,7 +29,7 @@ returns c =
     let given = after-width.before.before.before.before.before.args in
     let left = after-measure.measure.new.1.1.1 in
     let came-back = measurement after-measure.measure.result left.0 left.1.0 in
-    both-are
+    both_are
     (λ (width height : ℕ). MeasureIs given.levels.now width height given.output.now given.work.now came-back)
     after-width.number.ensures
     after-height.number2.ensures

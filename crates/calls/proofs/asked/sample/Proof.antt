@@ -3,7 +3,7 @@ use borrow.Author.Rules.{rules}
 use Prim.Native.Nat.{ℕ}
 use Rattle.units.specs.declared.Sixteenths.{Sixteenths}
 use Rattle.sample.specs.Cubic.{SampleIs}
-use Rattle.calls.proofs.Laws.{all-four-are}
+use Rattle.calls.proofs.Laws.{all_four_are}
 use Rattle.calls.proofs.asked.sample.Statement.{statement}
 use Rattle.calls.proofs.asked.sample.Tie as tie
 
@@ -29,7 +29,7 @@ returns c =
     let after-height = after-x.before.before in
     let after-width = after-height.before.before in
     let levels = after-width.before.before.before.args.levels.now in
-    all-four-are (λ (width height : ℕ) (x y : Sixteenths). SampleIs levels width height x y c.sample.result)
+    all_four_are (λ (width height : ℕ) (x y : Sixteenths). SampleIs levels width height x y c.sample.result)
     after-width.number.ensures
     after-height.number2.ensures
     after-x.signed.ensures

@@ -2,7 +2,7 @@
 use borrow.Author.Rules.{rules}
 use Prim.Native.Nat.{ℕ}
 use Rattle.memory.specs.Memory.{StartIs}
-use Rattle.calls.proofs.Laws.{both-are}
+use Rattle.calls.proofs.Laws.{both_are}
 use Rattle.calls.proofs.asked.start.Statement.{statement}
 use Rattle.calls.proofs.asked.start.Tie as tie
 
@@ -24,7 +24,7 @@ returns c =
     let after-height = after-start.before in
     let after-width = after-height.before.before in
     let given = after-width.before.before.before.before.args in
-    both-are
+    both_are
     (λ (width height : ℕ). StartIs given.held.now width height after-start.start.result after-start.start.new.0)
     after-width.number.ensures
     after-height.number2.ensures

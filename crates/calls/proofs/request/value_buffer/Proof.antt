@@ -1,6 +1,6 @@
 -- `calls::request::value_buffer` meets its contract. Assumes nothing.
 use borrow.Author.Rules.{rules}
-use Rattle.calls.proofs.Laws.{lent-room}
+use Rattle.calls.proofs.Laws.{lent_room}
 use Rattle.calls.proofs.request.value_buffer.Statement.{statement}
 use Rattle.calls.proofs.request.value_buffer.Tie as tie
 
@@ -28,7 +28,7 @@ returns-2 c =
     let else = after-lent.before.before.before in
     let after-fill = else.before.before in
     let at-start = after-fill.before.before.before in
-    lent-room 65536 after-fill.fill.new.0 at-start.args.space.now _ after-lent.lent-values.result
+    lent_room 65536 after-fill.fill.new.0 at-start.args.space.now _ after-lent.lent-values.result
     after-lent.lent-values.ensures
     after-lent.lent-values.auto.1.0
 

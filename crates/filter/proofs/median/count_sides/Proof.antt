@@ -7,7 +7,7 @@ use lib.ListN.{get_or, take}
 use lib.Seq.{get_or-take}
 use Rattle.filter.specs.Counting.{SidesAre}
 use Rattle.filter.proofs.Ranks.{one_most}
-use Rattle.filter.proofs.Search.{sides-more, sides-few}
+use Rattle.filter.proofs.Search.{sides_more, sides_few}
 use Rattle.filter.proofs.median.count_sides.Statement.{statement}
 use Rattle.filter.proofs.median.count_sides.Tie as tie
 
@@ -40,7 +40,7 @@ module _ (turn : tie.In-loop invariant-loop decreases-loop) where
 
   -- and so is each count
   few : (at-loop.loop.below ≤ k) × (at-loop.loop.above ≤ k)
-  few = sides-few t start.args.v k at-loop.loop.below at-loop.loop.above (omega arith) at-loop.loop.inv.2
+  few = sides_few t start.args.v k at-loop.loop.below at-loop.loop.above (omega arith) at-loop.loop.inv.2
 
 one-below-requires : tie.Need-one-below-requires invariant-loop decreases-loop
 one-below-requires c κs = let turn = c.before in (small turn, (start turn).requires.0.4)
@@ -67,7 +67,7 @@ loop-again c =
     let below-counted = c.before.before in
     let turn = below-counted.before.before in
     let counts = (at-loop turn).loop in
-    let more = sides-more (t turn) (start turn).args.v (k turn) counts.below counts.above (omega arith) counts.inv.2 in
+    let more = sides_more (t turn) (start turn).args.v (k turn) counts.below counts.above (omega arith) counts.inv.2 in
     (omega arith, omega arith, rw (below-counted.one_below.ensures, c.one-below2.ensures) more)
 
 returns : tie.Need-returns invariant-loop decreases-loop

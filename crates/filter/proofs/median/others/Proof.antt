@@ -5,7 +5,7 @@ use native.Mathlib.Omega.{arith}
 use borrow.Author.Rules.{rules}
 use lib.Seq.{get_or-take}
 use Rattle.filter.proofs.Ranges.{most_fewer}
-use Rattle.filter.proofs.Search.{sides-none, sides_itself}
+use Rattle.filter.proofs.Search.{sides_none, sides_itself}
 use Rattle.filter.proofs.median.others.Statement.{statement}
 use Rattle.filter.proofs.median.others.Tie as tie
 
@@ -20,7 +20,7 @@ count-sides-requires c κs =
     let start = c.before in
     let given = start.args in
     let levels = most_fewer 1020 given.k given.n given.t.now (omega arith) start.requires.3 in
-    ((omega arith, omega arith, omega arith, levels, small start), sides-none given.t.now given.v)
+    ((omega arith, omega arith, omega arith, levels, small start), sides_none given.t.now given.v)
 
 count-sides-requires-2 : tie.Need-count-sides-requires-2
 count-sides-requires-2 c κs =

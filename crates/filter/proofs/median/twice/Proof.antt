@@ -9,7 +9,7 @@ use lib.ListN.{take}
 use Rattle.filter.specs.Median.{twice_median}
 use Rattle.filter.proofs.Counts.{one_to_nine}
 use Rattle.filter.proofs.Ranges.{most_median}
-use Rattle.filter.proofs.Search.{Middles, middles-first, middles-more, middles-last}
+use Rattle.filter.proofs.Search.{Middles, middles_first, middles_more, middles_last}
 use Rattle.filter.proofs.median.twice.Statement.{statement}
 use Rattle.filter.proofs.median.twice.Tie as tie
 
@@ -23,7 +23,7 @@ loop-holds : tie.Need-loop-init invariant-loop decreases-loop
 loop-holds c =
     let start = c.before.before.before.before in
     let some = (one_to_nine start.requires.0).0 in
-    (omega arith, some, middles-first start.args.t.now start.args.n some start.requires.1)
+    (omega arith, some, middles_first start.args.t.now start.args.n some start.requires.1)
 
 -- at the loop's test
 module _ (at-loop : tie.At-loop invariant-loop decreases-loop) where
@@ -59,14 +59,14 @@ loop-again c =
     let at-loop = counted.before.before.before in
     let turn = at-loop.loop in
     let ranks = (ranked at-loop).middle-ranks.ensures in
-    let more = middles-more (t at-loop) (n at-loop) (some at-loop) (start at-loop).requires.1 turn.k _ _ _ _ _ _ _ _ _ (omega arith) refl in
+    let more = middles_more (t at-loop) (n at-loop) (some at-loop) (start at-loop).requires.1 turn.k _ _ _ _ _ _ _ _ _ (omega arith) refl in
     (omega arith, omega arith, more counted.others.ensures ranks.0 ranks.1 lower-found.found.ensures c.found2.ensures turn.invariant.2)
 
 -- past the loop all levels are looked at
 median : (c : tie.After-loop invariant-loop decreases-loop) → c.before.loop.lower + c.before.loop.upper ≡ twice_median (take (n c.before) (t c.before))
 median c =
     let at-loop = c.before in
-    middles-last (t at-loop) (n at-loop) (some at-loop) (start at-loop).requires.1 at-loop.loop.k _ _ (omega arith) at-loop.loop.invariant.2
+    middles_last (t at-loop) (n at-loop) (some at-loop) (start at-loop).requires.1 at-loop.loop.k _ _ (omega arith) at-loop.loop.invariant.2
 
 returns : tie.Need-returns invariant-loop decreases-loop
 returns c = median c

@@ -7,7 +7,7 @@ use lib.ListN.{drop, length-take, length-drop}
 use Rattle.records.specs.declared.Record.{Record}
 use Rattle.records.specs.declared.Record.TheVariants.{End}
 use Rattle.records.specs.Records.{RecordIs}
-use Rattle.records.proofs.Outcomes.{Levels, picture-lies}
+use Rattle.records.proofs.Outcomes.{Levels, picture_lies}
 use Rattle.gongspindle.proofs.look.look.Statement.{statement}
 use Rattle.gongspindle.proofs.look.look.Tie as tie
 
@@ -22,7 +22,7 @@ levels : (c : tie.After-side) → let entry = c.before.before.before.before in l
 levels c =
     let found = c.before.before in
     let entry = found.before.before in
-    picture-lies entry.args.input.now entry.args.at _ _ _ (looked found _ c.side.given.1)
+    picture_lies entry.args.input.now entry.args.at _ _ _ (looked found _ c.side.given.1)
 
 record-at-requires : tie.Need-record-at-requires
 record-at-requires c κs = search rules

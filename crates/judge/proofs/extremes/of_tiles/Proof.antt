@@ -6,7 +6,7 @@ use native.Mathlib.Omega.{arith}
 use borrow.Author.Rules.{rules}
 use Rattle.units.specs.Units.{eighths}
 use Rattle.judge.specs.Asked.{Band}
-use Rattle.judge.proofs.Tiles.{Bands, bands-none, bands-more, bands-all, band-inside}
+use Rattle.judge.proofs.Tiles.{Bands, bands_none, bands_more, bands_all, band_inside}
 use Rattle.judge.proofs.extremes.of_tiles.Statement.{statement}
 use Rattle.judge.proofs.extremes.of_tiles.Tie as tie
 
@@ -24,14 +24,14 @@ mul-band c =
     omega (arith, mul-le-mul rows sides.0.1)
 
 loop-holds : tie.Need-loop-init invariant-loop decreases-loop
-loop-holds c = let a = c.before.args in (omega arith, bands-none a.width a.height a.filtered.now)
+loop-holds c = let a = c.before.args in (omega arith, bands_none a.width a.height a.filtered.now)
 
 -- the band lies in the picture
 inside : (c : tie.In-loop invariant-loop decreases-loop) → let a = c.before.before.before.args in Band a.width (a.width / 4) (a.height / 4) c.before.loop.at a.filtered.now
 inside c =
     let s = c.before.before.before in
     let o = c.before.loop in
-    band-inside s.args.width s.args.height s.args.filtered.now o.at o.b s.requires o.invariant.1.at_is c.loop-test.true
+    band_inside s.args.width s.args.height s.args.filtered.now o.at o.b s.requires o.invariant.1.at_is c.loop-test.true
 
 band-totals-requires : tie.Need-band-totals-requires invariant-loop decreases-loop
 band-totals-requires c κs = inside c
@@ -56,7 +56,7 @@ loop-again c =
     let a = c.before.before.before.before.before.before.args in
     let o = c.before.before.before.before.loop in
     let r = c.before.before.band-totals in
-    (omega arith, bands-more a.width a.height a.filtered.now o.bright o.dark o.at o.b r.result.bright r.result.dark o.invariant.1 r.ensures.0 r.ensures.1)
+    (omega arith, bands_more a.width a.height a.filtered.now o.bright o.dark o.at o.b r.result.bright r.result.dark o.invariant.1 r.ensures.0 r.ensures.1)
 
 of-requires : tie.Need-of-requires invariant-loop decreases-loop
 of-requires c κs = search rules
@@ -69,7 +69,7 @@ returns c =
     let d = c.before.before in
     let a = d.before.before.before.args in
     let o = d.before.loop in
-    let all = bands-all a.width a.height a.filtered.now o.bright o.dark o.at o.b (omega arith) o.invariant.1 in
+    let all = bands_all a.width a.height a.filtered.now o.bright o.dark o.at o.b (omega arith) o.invariant.1 in
     (c.before.of.ensures ∙ ap eighths all.0, c.of2.ensures ∙ ap eighths all.1)
 
 pub of-tiles-spec : {M : Type 1} → statement M

@@ -6,7 +6,7 @@ use mathlib.Core.List.{foldl}
 use native.Mathlib.Omega.{arith}
 use borrow.Author.Rules.{rules}
 use lib.ListN.{length, drop}
-use Rattle.judge.proofs.Maxima.{gathered-more, gathered-all}
+use Rattle.judge.proofs.Maxima.{gathered_more, gathered_all}
 use Rattle.judge.proofs.extremes.row_ends.Statement.{statement}
 use Rattle.judge.proofs.extremes.row_ends.Tie as tie
 
@@ -44,8 +44,8 @@ loop-again c =
     let o = c.before.before.before.before.loop in
     let here : o.i < length row = omega arith in (
       omega arith,
-      gathered-more max row o.i here o.most c.before.larger.result c.before.larger.ensures ∙ o.invariant.1,
-      gathered-more min row o.i here o.least c.smaller.result c.smaller.ensures ∙ o.invariant.2,
+      gathered_more max row o.i here o.most c.before.larger.result c.before.larger.ensures ∙ o.invariant.1,
+      gathered_more min row o.i here o.least c.smaller.result c.smaller.ensures ∙ o.invariant.2,
     )
 
 returns : tie.Need-returns invariant-loop decreases-loop
@@ -53,7 +53,7 @@ returns c =
     let row = c.before.before.before.args.row.now in
     let o = c.before.loop in
     let none : length row ≤ o.i = omega arith in
-    (sym (gathered-all max row o.i none o.most) ∙ o.invariant.1, sym (gathered-all min row o.i none o.least) ∙ o.invariant.2)
+    (sym (gathered_all max row o.i none o.most) ∙ o.invariant.1, sym (gathered_all min row o.i none o.least) ∙ o.invariant.2)
 
 pub row-ends-spec : {M : Type 1} → statement M
 row-ends-spec =

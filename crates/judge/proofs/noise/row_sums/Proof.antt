@@ -4,7 +4,7 @@ use native.Mathlib.Omega.{arith}
 use borrow.Author.Rules.{rules}
 use lib.ListN.{length}
 use Rattle.judge.specs.Asked.{light, flat, Sums}
-use Rattle.judge.proofs.Spreads.{sums_none, sums-more, sums-done}
+use Rattle.judge.proofs.Spreads.{sums_none, sums_more, sums_done}
 use Rattle.judge.proofs.noise.row_sums.Statement.{statement}
 use Rattle.judge.proofs.noise.row_sums.Tie as tie
 
@@ -39,7 +39,7 @@ loop-again c =
     let loop = lit.before.before.before in
     let s = loop.before.before.before in
     let a = s.args in
-    (omega arith, sums-more (light a.levels.now) (flat a.filtered.now) (s.requires.small loop.loop.k) lit.eight-times.ensures c.apart16.ensures loop.loop.invariant.1)
+    (omega arith, sums_more (light a.levels.now) (flat a.filtered.now) (s.requires.small loop.loop.k) lit.eight-times.ensures c.apart16.ensures loop.loop.invariant.1)
 
 cast-gap : tie.Need-overflow-cast-gap invariant-loop decreases-loop
 cast-gap c = omega arith
@@ -69,7 +69,7 @@ loop-less : tie.Need-loop-smaller invariant-loop decreases-loop
 loop-less c = omega arith
 
 returns : tie.Need-returns invariant-loop decreases-loop
-returns c = let loop = c.before.loop in sums-done _ _ loop.invariant.0 c.loop-test.false loop.invariant.1
+returns c = let loop = c.before.loop in sums_done _ _ loop.invariant.0 c.loop-test.false loop.invariant.1
 
 pub row-sums-spec : {M : Type 1} → statement M
 row-sums-spec =

@@ -6,7 +6,7 @@ use borrow.Author.Rules.{rules}
 use Rattle.judge.specs.Noise.{inner_pixels}
 use Rattle.judge.specs.Asked.{Sums}
 use Rattle.judge.proofs.Inner.{few_inner}
-use Rattle.judge.proofs.Spreads.{light_at, flat_at, room, no_wrap, is-spread}
+use Rattle.judge.proofs.Spreads.{light_at, flat_at, room, no_wrap, is_spread}
 use Rattle.judge.proofs.InnerRows.{Rows, rows_none, rooms, inside, row-pair, rows_more, rows_all}
 use Rattle.judge.proofs.noise.spread.Statement.{statement}
 use Rattle.judge.proofs.noise.spread.Tie as tie
@@ -157,7 +157,7 @@ sub-result c = rw c.inner-pixels.ensures (enough c)
 returns : tie.Need-returns invariant-loop decreases-loop
 returns c =
     rw c.inner-pixels.ensures
-    (is-spread (width c) (height c) (levels c) (filtered c) (ended c) c.before.apart.ensures, omega (arith, few c))
+    (is_spread (width c) (height c) (levels c) (filtered c) (ended c) c.before.apart.ensures, omega (arith, few c))
 
 pub spread-spec : {M : Type 1} → statement M
 spread-spec =

@@ -4,7 +4,7 @@ use Prim.Native.Nat.{ℕ, ◌-◌, ◌<◌}
 use native.Mathlib.Omega.{arith}
 use borrow.Fn.Kinds.{In}
 use borrow.Fn.PlainCycle.{Measures, is, falls, and}
-use Rattle.arithmetic.proofs.Greatest.{not-empty, upper-half, lower-half, narrowed}
+use Rattle.arithmetic.proofs.Greatest.{not_empty, upper_half, lower_half, narrowed}
 use Rattle.judge.proofs.Ratios.{answered_yes, answered_no, compared_falls}
 use Rattle.judge.proofs.ratio.halve.Reads as halve
 use Rattle.judge.proofs.ratio.halve.Kinds as halve-kinds
@@ -28,29 +28,29 @@ called t = (reaches.Asked, reaches.Learnt, halve-below t, halve.Post)
 
 module _ (t : ℕ) where
   halve-sub-if1 : halve-lts.Need-overflow-sub-if1 (called t) (halve-at t) halve.Post
-  halve-sub-if1 c = omega (arith, not-empty c.requires.1.0)
+  halve-sub-if1 c = omega (arith, not_empty c.requires.1.0)
 
   halve-returns : halve-lts.Need-returns (called t) (halve-at t) halve.Post
   halve-returns c = narrowed c.before.requires.1.0 (omega arith)
 
   halve-sub-mid : halve-lts.Need-overflow-sub-mid (called t) (halve-at t) halve.Post
-  halve-sub-mid c = omega (arith, not-empty c.before.requires.1.0)
+  halve-sub-mid c = omega (arith, not_empty c.before.requires.1.0)
 
   halve-add-mid : halve-lts.Need-overflow-add-mid (called t) (halve-at t) halve.Post
-  halve-add-mid c = omega (arith, not-empty c.before.requires.1.0)
+  halve-add-mid c = omega (arith, not_empty c.before.requires.1.0)
 
   halve-reaches-requires : halve-lts.Need-reaches-requires (called t) (halve-at t) halve.Post
-  halve-reaches-requires c κs = (omega (arith, not-empty c.before.requires.1.0), c.before.requires.1.2)
+  halve-reaches-requires c κs = (omega (arith, not_empty c.before.requires.1.0), c.before.requires.1.2)
 
   halve-halve-requires : halve-lts.Need-halve-requires (called t) (halve-at t) halve.Post
   halve-halve-requires c κs =
       let p = c.before.before.before.requires.1 in
-      (omega arith, (upper-half p.0 (answered_yes _ _ c.before.reaches.ensures c.if2.true), p.1, p.2))
+      (omega arith, (upper_half p.0 (answered_yes _ _ c.before.reaches.ensures c.if2.true), p.1, p.2))
 
   halve-halve-requires-2 : halve-lts.Need-halve-requires-2 (called t) (halve-at t) halve.Post
   halve-halve-requires-2 c κs =
       let p = c.before.before.before.requires.1 in
-      (omega arith, (lower-half p.0 (compared_falls _ _) (answered_no _ _ c.before.reaches.ensures c.if2.false), omega arith, p.2))
+      (omega arith, (lower_half p.0 (compared_falls _ _) (answered_no _ _ c.before.reaches.ensures c.if2.false), omega arith, p.2))
 
   halve-returns-2 : halve-lts.Need-returns-2 (called t) (halve-at t) halve.Post
   halve-returns-2 c = c.halve.ensures

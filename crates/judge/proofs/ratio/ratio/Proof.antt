@@ -8,7 +8,7 @@ use borrow.Author.Rules.{rules}
 use borrow.Author.Tests.{not-true, not-false}
 use Rattle.judge.specs.Wide.{value}
 use Rattle.judge.proofs.Digits.{product_room}
-use Rattle.judge.proofs.Ratios.{answered_yes, answered_no, Compared, product, product_most, end_most, Sides, left-most, quotient-least, starts, found, none_found}
+use Rattle.judge.proofs.Ratios.{answered_yes, answered_no, Compared, product, product_most, end_most, Sides, left_most, quotient-least, starts, found, none_found}
 use Rattle.judge.proofs.ratio.ratio.Statement.{statement}
 use Rattle.judge.proofs.ratio.ratio.Tie as tie
 
@@ -56,7 +56,7 @@ times-requires-2 c κs =
     (omega (arith, small), rw c.of2.ensures (product_room small small (lit< tt)))
 
 reaches-requires : tie.Need-reaches-requires
-reaches-requires c κs = (zero-le, left-most (sides c) (given c).requires.3)
+reaches-requires c κs = (zero-le, left_most (sides c) (given c).requires.3)
 
 returns : tie.Need-returns
 returns c = none_found (sides c.before.before) (answered_no _ _ c.before.reaches.ensures (not-true _ c.if1.true))
@@ -90,7 +90,7 @@ halve-requires c κs =
     let s = test.before.before in (
       starts (sides s) c.before.power-below-root.ensures c.less-138.ensures (zero-reaches test),
       end_most _ (most (given s)),
-      left-most (sides s) (given s).requires.3,
+      left_most (sides s) (given s).requires.3,
     )
 
 returns-2 : tie.Need-returns-2

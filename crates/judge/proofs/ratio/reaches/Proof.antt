@@ -2,7 +2,7 @@
 -- Assumes nothing.
 use native.Mathlib.Omega.{arith}
 use borrow.Author.Rules.{rules}
-use Rattle.judge.proofs.Ratios.{once-room, twice-room, twice_is_square}
+use Rattle.judge.proofs.Ratios.{once_room, twice_room, twice_is_square}
 use Rattle.judge.proofs.ratio.reaches.Statement.{statement}
 use Rattle.judge.proofs.ratio.reaches.Tie as tie
 
@@ -10,10 +10,10 @@ add-sum : tie.Need-overflow-add-sum
 add-sum c = omega arith
 
 times-requires : tie.Need-times-requires
-times-requires c κs = (omega arith, once-room c.requires.1 c.requires.0)
+times-requires c κs = (omega arith, once_room c.requires.1 c.requires.0)
 
 times-requires-2 : tie.Need-times-requires-2
-times-requires-2 c κs = (omega arith, twice-room c.before.requires.1 c.before.requires.0 c.times.ensures)
+times-requires-2 c κs = (omega arith, twice_room c.before.requires.1 c.before.requires.0 c.times.ensures)
 
 at-most-requires : tie.Need-at-most-requires
 at-most-requires c κs = search rules

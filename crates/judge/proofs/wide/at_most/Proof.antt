@@ -4,7 +4,7 @@ use mathlib.Core.Path.{◌≡◌}
 use mathlib.Core.Logic.{inl, inr, ⊎_elim}
 use native.Mathlib.Omega.{arith}
 use borrow.Author.Rules.{rules}
-use Rattle.judge.proofs.Digits.{Compared, compared_none, compared-more}
+use Rattle.judge.proofs.Digits.{Compared, compared_none, compared_more}
 use Rattle.judge.proofs.wide.at_most.Statement.{statement}
 use Rattle.judge.proofs.wide.at_most.Tie as tie
 
@@ -49,7 +49,7 @@ loop-again c =
     let x = c.before.before.digit in
     let y = c.before.digit2 in (
       omega arith,
-      compared-more a.t1 a.t2 l.answer l.i x.result y.result l.invariant.1 (x.ensures.1, y.ensures.1) (x.ensures.0, y.ensures.0) c.if1.answer
+      compared_more a.t1 a.t2 l.answer l.i x.result y.result l.invariant.1 (x.ensures.1, y.ensures.1) (x.ensures.0, y.ensures.0) c.if1.answer
           (⊎_elim
           (λ w. inl (w.0.taken, w.1))
           (⊎_elim (λ w. inr (inl (w.1.taken, w.2))) (λ w. inr (inr (w.1.left, w.0.left, w.2))))

@@ -4,7 +4,7 @@ use Prim.Native.Nat.{◌+◌, ◌-◌, ◌*◌, ◌≤◌}
 use mathlib.Core.Path.{◌≡◌, refl}
 use native.Mathlib.Omega.{arith}
 use borrow.Author.Rules.{rules}
-use Rattle.judge.proofs.Digits.{Multiplied, multiplied-none, multiplied-more, multiplied-all, with_carry}
+use Rattle.judge.proofs.Digits.{Multiplied, multiplied_none, multiplied_more, multiplied_all, with_carry}
 use Rattle.judge.proofs.wide.times_plus.Statement.{statement}
 use Rattle.judge.proofs.wide.times_plus.Tie as tie
 
@@ -17,7 +17,7 @@ decreases-loop k c a out₀ carry₀ j₀ out carry j = 10 - j
 loop-holds : tie.Need-loop-init invariant-loop decreases-loop
 loop-holds c =
     let a = c.args in
-    (omega arith, multiplied-none a.t1 a.k a.c _ refl c.requires.1)
+    (omega arith, multiplied_none a.t1 a.k a.c _ refl c.requires.1)
 
 -- what a turn computes has room
 room : (c : tie.After-digit invariant-loop decreases-loop) → let s = c.before.before in c.digit.result * s.before.args.k + s.loop.carry ≤ 65536 * s.before.args.k
@@ -61,7 +61,7 @@ loop-again c =
     let a = s.before.args in
     let l = s.loop in
     let x = c.digit in
-    (omega arith, multiplied-more a.t1 a.k a.c l.out l.carry l.j x.result (omega arith) x.ensures.1 x.ensures.0 l.invariant.1)
+    (omega arith, multiplied_more a.t1 a.k a.c l.out l.carry l.j x.result (omega arith) x.ensures.1 x.ensures.0 l.invariant.1)
 
 returns : tie.Need-returns invariant-loop decreases-loop
 returns c =
@@ -69,7 +69,7 @@ returns c =
     let a = s.args in
     let l = c.before.loop in
     let end : l.j ≡ 10 = omega arith in
-    multiplied-all a.t1 a.k a.c l.out l.carry 10 s.requires.2 (rw end at l.invariant.1)
+    multiplied_all a.t1 a.k a.c l.out l.carry 10 s.requires.2 (rw end at l.invariant.1)
 
 pub times-plus-spec : {M : Type 1} → statement M
 times-plus-spec =

@@ -10,7 +10,7 @@ use mir.ValLaws.{to_z-of_z}
 use Rattle.arithmetic.specs.Lists.{AtMost}
 use Rattle.arithmetic.specs.Sums.{sumℤ}
 use Rattle.arithmetic.proofs.SignedSums.{sumℤ_none, sumℤ_more}
-use Rattle.arithmetic.proofs.Casts.{product-fits, sum_fits, sum-gives}
+use Rattle.arithmetic.proofs.Casts.{product_fits, sum_fits, sum-gives}
 use Rattle.sample.specs.declared.Coordinate.{Coordinate}
 use Rattle.sample.specs.Cubic.{weight}
 use Rattle.sample.specs.Asked.{row_sum, row_start, row_term}
@@ -110,7 +110,7 @@ module _ (c : tie.After-row-sum invariant-loop decreases-loop) where
   more = let small = (began turn).pre.1 in rows_fit (levels turn) bytes _ _ _ _ _ small.0 small.1 (r turn) turn.loop-test.taken
 
 mul-sum : tie.Need-overflow-mul-sum invariant-loop decreases-loop
-mul-sum c = product-fits w64 (is-weight c) (is_row c) (room c)
+mul-sum c = product_fits w64 (is-weight c) (is_row c) (room c)
 
 add-sum : tie.Need-overflow-add-sum invariant-loop decreases-loop
 add-sum c = sum_fits w64 (is-weight c) (is_row c) (room c) (looped (turn c)).loop.inv.2 (more c)

@@ -1,7 +1,7 @@
 -- `sample::cubic::difference` meets its contract. Assumes nothing.
 use mir.Syntax.{w64}
 use borrow.Author.Rules.{rules}
-use Rattle.arithmetic.proofs.Casts.{diff-fits, diff-gives}
+use Rattle.arithmetic.proofs.Casts.{diff_fits, diff_gives}
 use Rattle.sample.proofs.cubic.difference.Statement.{statement}
 use Rattle.sample.proofs.cubic.difference.Tie as tie
 
@@ -12,10 +12,10 @@ cast-result-2 : tie.Need-overflow-cast-result-2
 cast-result-2 c = search rules
 
 sub-result : tie.Need-overflow-sub-result
-sub-result c = diff-fits w64 c.args.added c.args.taken c.requires.0 c.requires.1
+sub-result c = diff_fits w64 c.args.added c.args.taken c.requires.0 c.requires.1
 
 returns : tie.Need-returns
-returns c = diff-gives w64 c.args.added c.args.taken c.requires.0 c.requires.1
+returns c = diff_gives w64 c.args.added c.args.taken c.requires.0 c.requires.1
 
 pub difference-spec : {M : Type 1} → statement M
 difference-spec = tie.close (tie.spec cast-result cast-result-2 sub-result returns)

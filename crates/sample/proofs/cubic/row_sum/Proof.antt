@@ -11,7 +11,7 @@ use mir.ValLaws.{to_z-of_z, to_z_pos}
 use Rattle.arithmetic.specs.Lists.{AtMost}
 use Rattle.arithmetic.specs.Sums.{sumℤ}
 use Rattle.arithmetic.proofs.SignedSums.{sumℤ_none, sumℤ_more}
-use Rattle.arithmetic.proofs.Casts.{product-fits, sum_fits, sum-gives}
+use Rattle.arithmetic.proofs.Casts.{product_fits, sum_fits, sum-gives}
 use Rattle.sample.specs.Cubic.{weight}
 use Rattle.sample.specs.Asked.{column_term}
 use Rattle.sample.proofs.Reach.{column_fits, columns-fit}
@@ -76,7 +76,7 @@ cast-sum : tie.Need-overflow-cast-sum invariant-loop decreases-loop
 cast-sum c = record { sfits = omega (arith, bytes c (at c + t c)) }
 
 mul-sum : tie.Need-overflow-mul-sum invariant-loop decreases-loop
-mul-sum c = product-fits w64 (is-weight c) (is-level c) (room c)
+mul-sum c = product_fits w64 (is-weight c) (is-level c) (room c)
 
 add-sum-2 : tie.Need-overflow-add-sum-2 invariant-loop decreases-loop
 add-sum-2 c = sum_fits w64 (is-weight c) (is-level c) (room c) (looped c).loop.invariant.1 (more c)

@@ -5,8 +5,8 @@ use native.Mathlib.Omega.{arith}
 use borrow.Author.Rules.{rules}
 use lib.ListN.{length}
 use Rattle.scan.specs.Asked.{long}
-use Rattle.scan.proofs.Shown.{long-most}
-use Rattle.scan.proofs.Twos.{place_inside, none-completed, row-completed}
+use Rattle.scan.proofs.Shown.{long_most}
+use Rattle.scan.proofs.Twos.{place_inside, none_completed, row_completed}
 use Rattle.scan.proofs.steps.complete.Statement.{statement}
 use Rattle.scan.proofs.steps.complete.Tie as tie
 
@@ -29,8 +29,8 @@ facts s =
       newer = place_inside a.width ((a.k + 1) % 2) (omega arith);
       room = omega (arith, given.room);
       few = omega arith;
-      newer-long = long-most a.height a.k a.late a.width;
-      older-long = long-most a.height a.k (a.late + 1) a.width;
+      newer-long = long_most a.height a.k a.late a.width;
+      older-long = long_most a.height a.k (a.late + 1) a.width;
     }
 
 -- the start, seen from where the newer row's length is known
@@ -41,7 +41,7 @@ returns : tie.Need-returns
 returns c =
     let s = start c.before in
     let a = s.args in
-    none-completed a.width a.height a.k a.late a.two.now a.row.now a.out.now s.pre.0 _ c.before.long.ensures
+    none_completed a.width a.height a.k a.late a.two.now a.row.now a.out.now s.pre.0 _ c.before.long.ensures
     (omega arith)
 
 returns-2 : tie.Need-returns-2
@@ -52,7 +52,7 @@ returns-2 c =
     let newer-known = there.before in
     let s = start newer-known in
     let a = s.args in
-    row-completed a.width a.height a.k a.late a.two.now a.row.now a.out.now s.pre.0 _ _
+    row_completed a.width a.height a.k a.late a.two.now a.row.now a.out.now s.pre.0 _ _
     newer-known.long.ensures older-known.long2.ensures there.if1.false s.pre.1 _ made.row.ensures
 
 long-requires : tie.Need-long-requires

@@ -2,7 +2,7 @@
 -- Assumes nothing.
 use native.Mathlib.Omega.{arith}
 use borrow.Author.Rules.{rules}
-use Rattle.scan.proofs.Twos.{place_fits, is-replaced}
+use Rattle.scan.proofs.Twos.{place_fits, is_replaced}
 use Rattle.scan.proofs.steps.pass.Statement.{statement}
 use Rattle.scan.proofs.steps.pass.Tie as tie
 
@@ -31,7 +31,7 @@ returns c =
     let put = c.before.before in
     let done = completed put.before in
     let a = (start done).args in
-    (is-replaced a.width a.height a.k a.late a.two.now a.row.now _ put.put.ensures, done.complete.ensures)
+    (is_replaced a.width a.height a.k a.late a.two.now a.row.now _ put.put.ensures, done.complete.ensures)
 
 same_length : tie.Need-same-length
 same_length c = search rules

@@ -15,10 +15,10 @@ use Rattle.scan.specs.Ring.{held_in, replaced}
 use Rattle.scan.proofs.SixRows.{second-two, third-two, all_three}
 use Rattle.scan.specs.Held.{pass_one_row, pass_two_row}
 use Rattle.scan.specs.Asked.{long}
-use Rattle.scan.proofs.Shown.{long-most}
+use Rattle.scan.proofs.Shown.{long_most}
 use Rattle.scan.proofs.Turns.{length-next}
-use Rattle.scan.proofs.Passing.{front_is, Arriving, length-pass-one-row, length-pass-two-row, below-levels, below-pass-one, below-pass-two}
-use Rattle.scan.proofs.Passing.{pass-one-is-row, pass-two-is-row, pass-three-is-row, two-are, length-two-are, rows_are}
+use Rattle.scan.proofs.Passing.{front_is, Arriving, length_pass_one_row, length_pass_two_row, below_levels, below_pass_one, below_pass_two}
+use Rattle.scan.proofs.Passing.{pass-one-is-row, pass-two-is-row, pass-three-is-row, two_are, length_two_are, rows_are}
 use Rattle.scan.proofs.steps.take_row.Statement.{statement}
 use Rattle.scan.proofs.steps.take_row.Tie as tie
 
@@ -72,9 +72,9 @@ lengths s =
     record {
       few = s.requires.0.0.width.1;
       six = s.requires.0.0.room;
-      levels-fit = omega (arith, s.requires.0.1, long-most a.height a.k 0 a.width);
-      halves-fit = long-most a.height a.k 1 a.width;
-      quarters-fit = long-most a.height a.k 2 a.width;
+      levels-fit = omega (arith, s.requires.0.1, long_most a.height a.k 0 a.width);
+      halves-fit = long_most a.height a.k 1 a.width;
+      quarters-fit = long_most a.height a.k 2 a.width;
       widened-room = s.requires.1.0;
       halves-room = s.requires.1.1;
       quarters-room = s.requires.1.2;
@@ -102,10 +102,10 @@ module _ (one : tie.After-pass) where
   halves = one.pass.last.1.1.1.1.1.1.0
 
   a_is : a ≡ replaced w₁ (k widened₁) (two_of w₁ rows₁ 0) levels₁
-  a_is = two-are (arriving widened₁) 0 _ _ a _ (first_two w₁ rows₁) (widened_is widened₁) one.pass.ensures.0
+  a_is = two_are (arriving widened₁) 0 _ _ a _ (first_two w₁ rows₁) (widened_is widened₁) one.pass.ensures.0
 
   a-long : length a ≡ w₁ + w₁
-  a-long = length-two-are (arriving widened₁) 0 0 (omega arith) a levels₁ (arriving widened₁).long_as a_is
+  a-long = length_two_are (arriving widened₁) 0 0 (omega arith) a levels₁ (arriving widened₁).long_as a_is
 
   halves-is : halves ≡ pass_one_row (held_in w₁ (h widened₁) (k widened₁) rows₁) levels₁ ++ drop (long w₁ (h widened₁) (k widened₁) 1)
       (start widened₁).args.halves.now
@@ -114,7 +114,7 @@ module _ (one : tie.After-pass) where
   halves-front : take widened₁.before.before.before.long.result halves
       ≡ pass_one_row (held_in w₁ (h widened₁) (k widened₁) rows₁) levels₁
   halves-front =
-      front_is _ halves _ _ halves-is (length-pass-one-row (arriving widened₁) ∙ sym widened₁.before.before.before.long.ensures)
+      front_is _ halves _ _ halves-is (length_pass_one_row (arriving widened₁) ∙ sym widened₁.before.before.before.long.ensures)
 
 -- ---- pass two is made
 module _ (two : tie.After-pass2) where
@@ -147,10 +147,10 @@ module _ (two : tie.After-pass2) where
   quarters = two.pass2.last.1.1.1.1.1.1.0
 
   b_is : b ≡ replaced w₂ (k widened₂) (two_of w₂ rows₂ 1) (pass_one_row (held_in w₂ (h widened₂) (k widened₂) rows₂) (levels widened₂))
-  b_is = two-are (arriving widened₂) 1 _ _ b _ (second-two w₂ rows₂ (a one₂) (a-long one₂)) (halves-front one₂) two.pass2.ensures.0
+  b_is = two_are (arriving widened₂) 1 _ _ b _ (second-two w₂ rows₂ (a one₂) (a-long one₂)) (halves-front one₂) two.pass2.ensures.0
 
   b-long : length b ≡ w₂ + w₂
-  b-long = length-two-are (arriving widened₂) 1 1 (omega arith) b _ (length-pass-one-row (arriving widened₂)) b_is
+  b-long = length_two_are (arriving widened₂) 1 1 (omega arith) b _ (length_pass_one_row (arriving widened₂)) b_is
 
   quarters-is : quarters ≡ pass_two_row (held_in w₂ (h widened₂) (k widened₂) rows₂) (levels widened₂) ++ drop
       (long w₂ (h widened₂) (k widened₂) 2) (start widened₂).args.quarters.now
@@ -161,7 +161,7 @@ module _ (two : tie.After-pass2) where
   quarters-front : take widened₂.before.before.long2.result quarters
       ≡ pass_two_row (held_in w₂ (h widened₂) (k widened₂) rows₂) (levels widened₂)
   quarters-front =
-      front_is _ quarters _ _ quarters-is (length-pass-two-row (arriving widened₂) ∙ sym widened₂.before.before.long2.ensures)
+      front_is _ quarters _ _ quarters-is (length_pass_two_row (arriving widened₂) ∙ sym widened₂.before.before.long2.ensures)
 
 -- ---- pass three is made
 module _ (three : tie.After-pass3) where
@@ -185,7 +185,7 @@ module _ (three : tie.After-pass3) where
 
   c_is : c ≡ replaced w₃ (k widened₃) (two_of w₃ rows₃ 2) (pass_two_row (held_in w₃ (h widened₃) (k widened₃) rows₃) (levels widened₃))
   c_is =
-      two-are (arriving widened₃) 2 _ _ c _ (third-two w₃ rows₃ (a one₃) (a-long one₃) (b two₃) (b-long two₃)) (quarters-front two₃)
+      two_are (arriving widened₃) 2 _ _ c _ (third-two w₃ rows₃ (a one₃) (a-long one₃) (b two₃) (b-long two₃)) (quarters-front two₃)
       three.pass3.ensures.0
 
 -- ---- the end
@@ -213,14 +213,14 @@ pass-requires : tie.Need-pass-requires
 pass-requires c κs =
     let widened = c.before.before.before.before.before in
     let known = lengths (start widened) in
-    let below = below-levels (arriving widened) _ _ (first_two (w widened) (rows widened)) (widened_is widened) in
+    let below = below_levels (arriving widened) _ _ (first_two (w widened) (rows widened)) (widened_is widened) in
     (below, le_trans known.halves-fit known.halves-room)
 
 pass-requires-2 : tie.Need-pass-requires-2
 pass-requires-2 c κs =
     let one = c.before.before.before.before.before.before.before in
     let known = lengths (start (widened₁ one)) in
-    let below = below-pass-one (arriving (widened₁ one)) _ _ (second-two (w₁ one) (rows₁ one) (a one) (a-long one)) (halves-front one) in
+    let below = below_pass_one (arriving (widened₁ one)) _ _ (second-two (w₁ one) (rows₁ one) (a one) (a-long one)) (halves-front one) in
     (below, le_trans known.quarters-fit known.quarters-room)
 
 pass-requires-3 : tie.Need-pass-requires-3
@@ -228,7 +228,7 @@ pass-requires-3 c κs =
     let two = c.before.before.before.before.before.before.before in
     let one = one₂ two in
     let third = third-two (w₂ two) (rows₂ two) (a one) (a-long one) (b two) (b-long two) in
-    (below-pass-two (arriving (widened₂ two)) _ _ third (quarters-front two), (start (widened₂ two)).pre.0.2)
+    (below_pass_two (arriving (widened₂ two)) _ _ third (quarters-front two), (start (widened₂ two)).pre.0.2)
 
 widen-requires : tie.Need-widen-requires
 widen-requires c κs = omega (arith, lengths c.before.before.before.before.before.before.before.before.before)

@@ -13,7 +13,7 @@ use Rattle.memory.specs.Memory.{row_at}
 use Rattle.scan.specs.Ring.{held_in}
 use Rattle.scan.specs.Held.{given}
 use Rattle.scan.specs.Asked.{long}
-use Rattle.scan.proofs.Taking.{Taken, taken_none, given_grows, given-count, taken-all, part-long, turn}
+use Rattle.scan.proofs.Taking.{Taken, taken_none, given_grows, given-count, taken_all, part_long, turn}
 use Rattle.scan.proofs.steps.take_rows.Statement.{statement}
 use Rattle.scan.proofs.steps.take_rows.Tie as tie
 
@@ -140,7 +140,7 @@ take-row-requires c κs =
     let width = (start turning).pre.0.width in
     let room : long a.width a.height (a.k + l.i) 3 ≤ length (take (length l.output - l.done) (drop l.done l.output)) =
     simp (length-take, length-drop) (omega (arith, is.room, t.output-long)) in (
-      (t.taken.ready, part-long a.each l.i l.at a.levels.now t.at_is is.inside _ is.row-there, room),
+      (t.taken.ready, part_long a.each l.i l.at a.levels.now t.at_is is.inside _ is.row-there, room),
       (omega (arith, width, t.widened-long), omega (arith, width, t.halves_long), omega (arith, width, t.quarters-long)),
     )
 
@@ -202,7 +202,7 @@ returns : tie.Need-returns invariant-loop decreases-loop
 returns c =
     let l = c.before.loop in
     let a = c.before.before.before.before.before.before.before.before.args in
-    taken-all a.width a.height a.k a.rows.now (row_at a.each a.levels.now) a.output.now l.i a.n l.done l.rows
+    taken_all a.width a.height a.k a.rows.now (row_at a.each a.levels.now) a.output.now l.i a.n l.done l.rows
     l.output (omega arith) l.invariant.taken
 
 blank-requires : tie.Need-blank-requires invariant-loop decreases-loop

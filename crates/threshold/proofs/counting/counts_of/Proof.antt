@@ -5,7 +5,7 @@ use Prim.Native.Nat.{ℕ, ◌-◌, ◌/◌, ◌<◌, ◌≤◌}
 use native.Mathlib.Omega.{arith}
 use lib.ListN.{length, get_or}
 use Rattle.threshold.specs.Asked.{Added}
-use Rattle.threshold.proofs.Histograms.{counts-none, counts-more, counts-room}
+use Rattle.threshold.proofs.Histograms.{counts_none, counts_more, counts_room}
 use Rattle.threshold.proofs.counting.counts_of.Statement.{statement}
 use Rattle.threshold.proofs.counting.counts_of.Tie as tie
 
@@ -16,7 +16,7 @@ abbrev decreases-loop : tie.decreases-loop
 decreases-loop values counts₀ i₀ counts i = length values - i
 
 loop-holds : tie.Need-loop-init invariant-loop decreases-loop
-loop-holds c = (omega arith, counts-none c.args.values.now)
+loop-holds c = (omega arith, counts_none c.args.values.now)
 
 -- where the loop stands, there is room for one value more
 module _ (turn : tie.At-loop invariant-loop decreases-loop) where
@@ -24,7 +24,7 @@ module _ (turn : tie.At-loop invariant-loop decreases-loop) where
   values = turn.before.args.values.now
 
   room : let l = get_or values turn.loop.i 0 / 8 in (l < 256) × (get_or turn.loop.counts l 0 ≤ 1048576)
-  room = counts-room values turn.before.pre turn.loop.i turn.loop.counts turn.loop.inv.0 turn.loop.inv.1
+  room = counts_room values turn.before.pre turn.loop.i turn.loop.counts turn.loop.inv.0 turn.loop.inv.1
 
 mul-level : tie.Need-overflow-mul-level invariant-loop decreases-loop
 mul-level c = omega arith
@@ -56,7 +56,7 @@ loop-less c = omega arith
 loop-again : tie.Need-loop-preserved invariant-loop decreases-loop
 loop-again c =
     let turn = c.before.before in
-    (omega arith, counts-more (values turn) turn.before.requires turn.loop.i turn.loop.counts turn.loop.invariant.1)
+    (omega arith, counts_more (values turn) turn.before.requires turn.loop.i turn.loop.counts turn.loop.invariant.1)
 
 -- past the loop all are counted
 returns : tie.Need-returns invariant-loop decreases-loop

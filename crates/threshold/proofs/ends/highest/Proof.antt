@@ -3,7 +3,7 @@ use Prim.Native.Nat.{◌≤◌, ◌<◌}
 use native.Mathlib.Omega.{arith}
 use lib.ListN.{length}
 use Rattle.threshold.specs.TwoMeans.{highest}
-use Rattle.threshold.proofs.Present.{highest-below, highest-sooner, highest-here}
+use Rattle.threshold.proofs.Present.{highest_below, highest_sooner, highest_here}
 use Rattle.threshold.proofs.ends.highest.Statement.{statement}
 use Rattle.threshold.proofs.ends.highest.Tie as tie
 
@@ -14,11 +14,11 @@ abbrev decreases-loop : tie.decreases-loop
 decreases-loop histogram v₀ v = v
 
 sub-v : tie.Need-overflow-sub-v invariant-loop decreases-loop
-sub-v c = omega (arith, highest-below c.args.histogram.now c.requires)
+sub-v c = omega (arith, highest_below c.args.histogram.now c.requires)
 
 loop-holds : tie.Need-loop-init invariant-loop decreases-loop
 loop-holds c =
-    let b = highest-below c.args.histogram.now c.requires in
+    let b = highest_below c.args.histogram.now c.requires in
     (omega arith, omega arith)
 
 mul-if1 : tie.Need-overflow-mul-if1 invariant-loop decreases-loop
@@ -28,18 +28,18 @@ shared-slice-read-if1 : tie.Need-shared-slice-read-if1 invariant-loop decreases-
 shared-slice-read-if1 c = omega arith
 
 sub-v-2 : tie.Need-overflow-sub-v-2 invariant-loop decreases-loop
-sub-v-2 c = omega (arith, highest-sooner _ c.before.before.before.requires _ c.before.before.loop.invariant.0 c.if1.true)
+sub-v-2 c = omega (arith, highest_sooner _ c.before.before.before.requires _ c.before.before.loop.invariant.0 c.if1.true)
 
 loop-less : tie.Need-loop-smaller invariant-loop decreases-loop
-loop-less c = omega (arith, highest-sooner _ c.before.before.before.requires _ c.before.before.loop.invariant.0 c.if1.true)
+loop-less c = omega (arith, highest_sooner _ c.before.before.before.requires _ c.before.before.loop.invariant.0 c.if1.true)
 
 loop-again : tie.Need-loop-preserved invariant-loop decreases-loop
 loop-again c =
-    let b = highest-sooner _ c.before.before.before.requires _ c.before.before.loop.invariant.0 c.if1.true in
+    let b = highest_sooner _ c.before.before.before.requires _ c.before.before.loop.invariant.0 c.if1.true in
     (omega arith, omega arith)
 
 returns : tie.Need-returns invariant-loop decreases-loop
-returns c = highest-here _ c.before.before.before.requires _ c.before.before.loop.invariant.0 c.if1.false
+returns c = highest_here _ c.before.before.before.requires _ c.before.before.loop.invariant.0 c.if1.false
 
 pub highest-spec : {M : Type 1} → statement M
 highest-spec =

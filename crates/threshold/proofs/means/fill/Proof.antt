@@ -2,7 +2,7 @@
 use Prim.Native.Nat.{◌-◌, ◌≤◌}
 use native.Mathlib.Omega.{arith}
 use lib.ListN.{length}
-use Rattle.threshold.proofs.Tables.{Filling, filling_none, filling-more, filling-all, number-room, level-sum-room, added-room}
+use Rattle.threshold.proofs.Tables.{Filling, filling_none, filling_more, filling_all, number-room, level-sum-room, added-room}
 use Rattle.threshold.proofs.means.fill.Statement.{statement}
 use Rattle.threshold.proofs.means.fill.Tie as tie
 
@@ -64,7 +64,7 @@ loop-less : tie.Need-loop-smaller invariant-loop decreases-loop
 loop-less c = omega arith
 
 loop-again : tie.Need-loop-preserved invariant-loop decreases-loop
-loop-again c = (omega arith, filling-more c.before.before.loop.invariant.1 c.before.loop-test.true)
+loop-again c = (omega arith, filling_more c.before.before.loop.invariant.1 c.before.loop-test.true)
 
 same_length : tie.Need-same-length invariant-loop decreases-loop
 same_length c = omega arith
@@ -73,7 +73,7 @@ same-length-2 : tie.Need-same-length-2 invariant-loop decreases-loop
 same-length-2 c = omega arith
 
 returns : tie.Need-returns invariant-loop decreases-loop
-returns c = filling-all c.before.loop.invariant.1 c.before.loop.invariant.0 c.loop-test.false
+returns c = filling_all c.before.loop.invariant.1 c.before.loop.invariant.0 c.loop-test.false
 
 pub fill_spec : {M : Type 1} → statement M
 fill_spec =

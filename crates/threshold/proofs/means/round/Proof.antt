@@ -3,7 +3,7 @@ use mathlib.Core.Logic.{⊎_elim}
 use native.Mathlib.Nat.{div-mul-le_self}
 use native.Mathlib.Omega.{arith}
 use borrow.Author.Rules.{rules}
-use Rattle.threshold.proofs.Tables.{Places, places-whole, places-part, whole_in, ReadFrom, sums-in, below_in, read, round_is}
+use Rattle.threshold.proofs.Tables.{Places, places_whole, places_part, whole_in, ReadFrom, sums_in, below_in, read, round_is}
 use Rattle.threshold.proofs.means.round.Statement.{statement}
 use Rattle.threshold.proofs.means.round.Tie as tie
 
@@ -14,8 +14,8 @@ places : (c : tie.Joined1) →
 places c =
     let asked = c.before.before.before.before.requires in
     ⊎_elim
-    (λ w. places-whole _ _ asked.1.0 asked.1.1 w.0.taken w.1)
-    (λ w. places-part _ _ asked.1.0 asked.1.1 w.0.left w.1)
+    (λ w. places_whole _ _ asked.1.0 asked.1.1 w.0.taken w.1)
+    (λ w. places_part _ _ asked.1.0 asked.1.1 w.0.left w.1)
     c.if1.branch
 
 -- what is read there
@@ -64,7 +64,7 @@ shared-slice-read-high-sum-2 c = omega (arith, places c.before.before.before.bef
 sub-high-sum : tie.Need-overflow-sub-high-sum
 sub-high-sum c =
     let joined = c.before.before.before.before.before in
-    sums-in joined.before.before.before.before.requires.0.0 (places joined)
+    sums_in joined.before.before.before.before.requires.0.0 (places joined)
 
 mul-high-number : tie.Need-overflow-mul-high-number
 mul-high-number c = search rules

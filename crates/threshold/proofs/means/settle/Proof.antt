@@ -7,7 +7,7 @@ use lib.ListN.{length}
 use borrow.Author.Rules.{rules}
 use Rattle.arithmetic.proofs.Fractions.{they_differ, they_agree}
 use Rattle.threshold.specs.Histogram.{total}
-use Rattle.threshold.proofs.Settling.{Going, first-within, first-room, going-first, next-within, going_on, still-time, going-ends}
+use Rattle.threshold.proofs.Settling.{Going, first_within, first_room, going_first, next_within, going_on, still_time, going_ends}
 use Rattle.threshold.proofs.means.settle.Statement.{statement}
 use Rattle.threshold.proofs.means.settle.Tie as tie
 
@@ -33,20 +33,20 @@ module _ (c : tie.After-start invariant-loop decreases-loop) where
   some = c.before.before.before.before.requires.1
 
 round-requires : tie.Need-round-requires invariant-loop decreases-loop
-round-requires c κs = (c.before.before.before.before.requires.0, (some c, first-within (m c) (h c) (some c) c.start.result c.start.ensures))
+round-requires c κs = (c.before.before.before.before.requires.0, (some c, first_within (m c) (h c) (some c) c.start.result c.start.ensures))
 
 mul-t11 : tie.Need-overflow-mul-t11 invariant-loop decreases-loop
 mul-t11 c =
     let first = c.before.before in
     omega (
       arith,
-      first-room (m first) (h first) (some first) first.before.before.before.before.requires.0.1 first.start.result c.before.round.result first.start.ensures c.before.round.ensures,
+      first_room (m first) (h first) (some first) first.before.before.before.before.requires.0.1 first.start.result c.before.round.result first.start.ensures c.before.round.ensures,
     )
 
 loop-holds : tie.Need-loop-init invariant-loop decreases-loop
 loop-holds c =
     let first = c.before.before in
-    going-first (m first) (h first) (some first) first.start.result c.before.round.result first.start.ensures c.before.round.ensures
+    going_first (m first) (h first) (some first) first.start.result c.before.round.result first.start.ensures c.before.round.ensures
 
 differ-requires : tie.Need-differ-requires invariant-loop decreases-loop
 differ-requires c κs = search rules
@@ -63,11 +63,11 @@ module _ (c : tie.Then1 invariant-loop decreases-loop) where
   moved = they_differ turn.loop.t turn.loop.next (sym c.before.differ.ensures ∙ c.if1.true)
 
   in_time : turn.loop.rounds < 2 * length (h first) - 1
-  in_time = still-time (m first) (h first) (some first) turn.loop.rounds turn.loop.t turn.loop.next turn.loop.inv moved
+  in_time = still_time (m first) (h first) (some first) turn.loop.rounds turn.loop.t turn.loop.next turn.loop.inv moved
 
 round-requires-2 : tie.Need-round-requires-2 invariant-loop decreases-loop
 round-requires-2 c κs =
-    ((first c).before.before.before.before.requires.0, (some (first c), next-within (m (first c)) (h (first c)) (some (first c)) (turn c).loop.invariant))
+    ((first c).before.before.before.before.requires.0, (some (first c), next_within (m (first c)) (h (first c)) (some (first c)) (turn c).loop.invariant))
 
 add_rounds : tie.Need-overflow-add-rounds invariant-loop decreases-loop
 add_rounds c = omega (arith, in_time c.before)
@@ -85,7 +85,7 @@ returns : tie.Need-returns invariant-loop decreases-loop
 returns c =
     let start = c.before.before.before.before.before in
     let loop = c.before.before.loop in
-    going-ends (m start) (h start) (some start) loop.rounds loop.t loop.next loop.invariant
+    going_ends (m start) (h start) (some start) loop.rounds loop.t loop.next loop.invariant
     (they_agree loop.t loop.next (sym c.before.differ.ensures ∙ c.if1.false))
 
 pub settle-spec : {M : Type 1} → statement M
