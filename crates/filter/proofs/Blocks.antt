@@ -7,7 +7,7 @@ use native.Mathlib.Nat.{zero-add, zero-min, min-zero, suc-min-suc}
 use native.Mathlib.Omega.{arith}
 use lib.ListN.{length, get_or, take, drop, length-append}
 use lib.Seq.{slice, length-slice, length-take-le, take_at, take-nil, drop-nil}
-use Rattle.arithmetic.specs.Lists.{joined, AtMost}
+use Rattle.arithmetic.specs.Lists.{AtMost}
 use Rattle.arithmetic.proofs.Lists.{length_joined, joined_at, joined_same, most_append, most_slice}
 use Rattle.arithmetic.proofs.Writing.{Overwritten}
 use Rattle.filter.specs.Median.{near, twice_median, block, row_of}

@@ -1,7 +1,7 @@
 -- Sums over the levels of a list: f of each level, added. Sorting leaves them as they are. Assumes nothing.
 use mathlib.Core.Path.{◌≡◌, refl, sym, ap, ◌∙◌}
 use mathlib.Core.Logic.{∥∥₁_elim}
-use mathlib.Core.List.{List, [], ◌∷◌, Permᴰ}
+use mathlib.Core.List.{List, ◌∷◌, Permᴰ}
 use Prim.Native.Nat.{ℕ, ◌+◌, ◌≤◌, ◌<◌}
 use native.Mathlib.Nat.{ℕ_set}
 use native.Mathlib.Omega.{arith}

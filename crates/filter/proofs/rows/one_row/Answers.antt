@@ -1,0 +1,48 @@
+use Rattle.std.proofs.Common.{◌≡◌, [], ◌<◌, length, ℕ, ◌+◌, ◌-◌, List}
+use Rattle.filter.specs.Median.{row_of}
+use mathlib.Core.Path.{refl, ◌∙◌}
+use native.Mathlib.Omega.{arith}
+use lib.ListN.{get_or, length-set}
+use lib.Seq.{slice}
+use Rattle.filter.specs.Median.{twice_median}
+use Rattle.filter.proofs.Filling.{first_stored, next_stored, last_stored}
+use Rattle.filter.proofs.Blocks.{Next, length_row, cell_of_one}
+use Rattle.filter.proofs.rows.one_row.Goals as goal
+
+-- what `of_one` gives for the columns next to column i is what stands there in the row
+cell_is : (here : List ℕ) (i f c v : ℕ) → i < length here → Next (length here) i f c → v ≡ twice_median (slice f (f + c) here)
+    → v ≡ get_or (row_of [] here []) i 0
+cell_is here i f c v column next e = cell_of_one i f c (length here) v column next here refl e
+
+pub returns-then-last-eq0 : goal.returns-then-last-eq0
+returns-then-last-eq0 c =
+    let here = c.args.here.now in
+    let v = c.of_one.result in
+    let cell = cell_is here 0 0 1 v (omega arith) (omega arith, omega arith) c.of_one.ensures in
+    last_stored (row_of [] here []) _ (length_row [] here []) c.args.out.now c.requires.out_len.0 v 0 (omega arith) cell refl
+
+pub loop-i-init : goal.loop-i-init
+loop-i-init c =
+    let here = c.args.here.now in
+    let v = c.of_one-2.result in
+    let cell = cell_is here 0 0 2 v (omega arith) (omega arith, omega arith) c.of_one-2.ensures in
+    let there = first_stored (row_of [] here []) _ (length_row [] here []) c.args.out.now c.requires.out_len.0 v c.requires.out_len.1 cell in
+    (omega arith, omega arith, length-set c.args.out.now 0 v ∙ c.requires.out_len.0, there)
+
+pub loop-i-preserved : goal.loop-i-preserved
+loop-i-preserved c =
+    let here = c.args.here.now in
+    let l = c.loop-i in
+    let v = c.of_one-in-loop-i.result in
+    let cell = cell_is here l.i (l.i - 1) 3 v (omega arith) (omega arith, omega arith) c.of_one-in-loop-i.ensures in
+    next_stored (row_of [] here []) _ (length_row [] here []) l.out l.invariant.2 v _ l.i (omega arith) (omega arith) cell l.invariant.0 l.invariant.3
+
+pub returns : goal.returns
+returns c =
+    let here = c.args.here.now in
+    let l = c.loop-i in
+    let last = length here - 1 in
+    let v = c.of_one-3.result in
+    let end : l.i ≡ last = omega arith in
+    let cell = cell_is here last (last - 1) 2 v (omega arith) (omega arith, omega arith) c.of_one-3.ensures in
+    last_stored (row_of [] here []) _ (length_row [] here []) l.out l.invariant.2 v last (omega arith) cell (rw end at l.invariant.3)
