@@ -3,6 +3,7 @@ pub mod Twos
 pub mod SixRows
 pub mod Turns
 pub mod Passing
+pub mod OnItsWay
 pub mod Taking
 pub mod Calls
 pub mod Outcomes
