@@ -63,16 +63,25 @@ def module_of(path):
 def declared(path):
     """The names that a file declares, those in its modules with arguments (`module _ (..) where`) too."""
     found = set()
-    inside = False
+    depth = 0
     for line in open(path, encoding="utf-8"):
-        if line.strip() and not line.startswith((" ", "--")):
-            inside = line.startswith("module _")
-        if inside and line.startswith("  ") and not line.startswith("   "):
-            line = line[2:]
-        m = DECLARED.match(line)
-        if m and not line.startswith((" ", "--", "use ", "pub use ", "where")) and m.group(1) not in ("module", "mod"):
+        if not line.strip() or line.lstrip().startswith("--"):
+            continue
+        indent = len(line) - len(line.lstrip(" "))
+        depth = min(depth, indent // 2)
+        rest = line[2 * depth :]
+        if rest.startswith("module _"):
+            depth += 1
+            continue
+        m = DECLARED.match(rest)
+        if m and not rest.startswith((" ", "use ", "pub use ", "where", ")", "|")) and m.group(1) not in ("module", "mod"):
             found.add(m.group(1))
     return found
+
+
+def stale(module, name, known):
+    """Whether a module of the repository is asked for a name that it has in snake case alone."""
+    return module in known and name not in known[module] and snake(name) in known[module]
 
 
 def imports(text):
@@ -86,9 +95,11 @@ def imports(text):
 def main():
     laws = sorted(glob.glob("crates/*/specs/**/*.antt", recursive=True) + glob.glob("crates/*/proofs/*.antt"))
     turned = {}
+    known = {}
     clash = []
     for path in laws:
         names = declared(path)
+        known[module_of(path)] = names | set(WORD.findall(open(path, encoding="utf-8").read()))
         mine = {n: OTHERWISE.get((module_of(path), n), snake(n)) for n in names if not n[0].isupper()}
         mine = {n: new for n, new in mine.items() if new != n}
         for n, new in mine.items():
@@ -119,7 +130,9 @@ def main():
                 plain, _, called = n.partition(" as ")
                 if plain in turned.get(module, {}):
                     here[plain] = turned[module][plain]
-                elif not called:
+                elif stale(module, plain, known):
+                    here[plain] = snake(plain)
+                elif not called and module not in known:
                     foreign.add(plain)
                 if called and not called[0].isupper() and snake(called) != called:
                     here[called] = snake(called)

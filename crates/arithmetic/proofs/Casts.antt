@@ -72,5 +72,5 @@ module _ (w : Width) {x y p q : ℤ} (is_x : x ≡ p) (is_y : y ≡ q) (room : S
     pub sum_fits : SFits w (s +ℤ to_z w (of_z w (x *ℤ y)))
     sum_fits = rw (product_gives, is-s) more
 
-    pub sum-gives : to_z w (of_z w (s +ℤ to_z w (of_z w (x *ℤ y)))) ≡ sum +ℤ p *ℤ q
-    sum-gives = to_z-of_z w (s +ℤ to_z w (of_z w (x *ℤ y))) sum_fits ∙ rw (product_gives, is-s)
+    pub sum_gives : to_z w (of_z w (s +ℤ to_z w (of_z w (x *ℤ y)))) ≡ sum +ℤ p *ℤ q
+    sum_gives = to_z-of_z w (s +ℤ to_z w (of_z w (x *ℤ y))) sum_fits ∙ rw (product_gives, is-s)

@@ -16,7 +16,7 @@ use Rattle.memory.proofs.Memories.{rows_of_memory, length_zeros}
 use Rattle.scan.specs.Ring.{held_in}
 use Rattle.scan.specs.Held.{Held, after, given, no_row}
 use Rattle.scan.specs.Scan.{Scanned, at_front, due, rows_given, RowsIs, end_given, EndIs}
-use Rattle.beam.specs.Calls.{Call, start-call, rows-call, end-call, CallIs, MadeTwice, CallsTwice, Seen, seen}
+use Rattle.beam.specs.Calls.{Call, start_call, rows_call, end_call, CallIs, MadeTwice, CallsTwice, Seen, seen}
 use Rattle.beam.proofs.Answers.{start_done, Came, rows_done, Finished, end_done, begun_zeros, left_is, left_begun, left_held}
 use Rattle.beam.proofs.Grouping.{refused_keeps}
 
@@ -135,7 +135,7 @@ start_then held w h n left z d =
 
 -- ---- one call on each
 one_seen : (one other : List ℕ) (c : Call) (r r' : Scanned) → Same one other → CallIs one c r → CallIs other c r' → seen r ≡ seen r'
-one_seen one other (start-call w h) r r' s d d' =
+one_seen one other (start_call w h) r r' s d d' =
     let number =
     together (λ p q. alike p.0 q.0) (λ p q. alike p.0 q.0) (start-own one w h r s.this.begun.long d.0)
     (start-own other w h r' s.that.begun.long d'.0) in
@@ -146,18 +146,18 @@ one_seen one other (start-call w h) r r' s d d' =
         ((r.number ≡ 0) × (r.held ≡ memory w h 0 (zeros 6144) (drop 6147 held)))
     start-own held w h r long (inl a) = inl (λ ok. a.0 (long, ok.0, ok.1), a.1)
     start-own held w h r long (inr a) = inr ((a.0.1, a.0.2), a.1)
-one_seen one other (rows-call levels output) r r' s d d' =
+one_seen one other (rows_call levels output) r r' s d d' =
     together alike (together alike (together alike alike))
     (in_view (RowsSeen levels output (seen r)) s.this (rows_own one levels output r s.this.begun d.1))
     (in_view (RowsSeen levels output (seen r')) s.that (rows_own other levels output r' s.that.begun d'.1))
-one_seen one other (end-call output) r r' s d d' =
+one_seen one other (end_call output) r r' s d d' =
     together alike (together alike alike)
     (in_view (EndSeen output (seen r)) s.this (end_own one output r s.this.begun d))
     (in_view (EndSeen output (seen r')) s.that (end_own other output r' s.that.begun d'))
 
 same_done : (one other : List ℕ) (c : Call) (r r' : Scanned) → Same one other → r.number ≡ 0 → r'.number ≡ 0 → CallIs one c r
     → CallIs other c r' → Same r.held r'.held
-same_done one other (start-call w h) r r' s z z' d d' = record {
+same_done one other (start_call w h) r r' s z z' d d' = record {
   w = w;
   h = h;
   k = 0;
@@ -165,7 +165,7 @@ same_done one other (start-call w h) r r' s z z' d d' = record {
   this = start_then one w h r.number r.held z d.0;
   that = start_then other w h r'.number r'.held z' d'.0;
 }
-same_done one other (rows-call levels output) r r' s z z' d d' = record {
+same_done one other (rows_call levels output) r r' s z z' d d' = record {
   w = s.w;
   h = s.h;
   k = s.k + length levels / s.w;
@@ -173,7 +173,7 @@ same_done one other (rows-call levels output) r r' s z z' d d' = record {
   this = rows_then one levels output r s.this d.0 z d.1;
   that = rows_then other levels output r' s.that d'.0 z' d'.1;
 }
-same_done one other (end-call output) r r' s z z' d d' = record {
+same_done one other (end_call output) r r' s z z' d d' = record {
   w = s.w;
   h = s.h;
   k = s.h + 3;

@@ -15,7 +15,7 @@ use Rattle.scan.specs.Ring.{held_in, later}
 use Rattle.scan.specs.Held.{after}
 use Rattle.scan.specs.Scan.{Scanned, scanned, at_front, due, rows_given, rows_held, RowsIs, end_given, EndIs}
 use Rattle.scan.specs.Asked.{Ready}
-use Rattle.scan.proofs.Calls.{Fitting, so_far, length_later, is_ready, rows_fit, rows-due, end_long}
+use Rattle.scan.proofs.Calls.{Fitting, so_far, length_later, is_ready, rows_fit, rows_due, end_long}
 
 -- ---- a start
 pub start_refused : (held left : List ℕ) (w h n : ℕ) → n ≢ 0 → StartIs held w h n left → left ≡ held
@@ -175,7 +175,7 @@ module _ (held levels output : List ℕ) (r : Scanned) (few : came_of held ≤ 6
 
   pub given_long : length (rows_given held levels) ≡ due k n * w
   unfolding rows_given rows_of
-  given_long = rows-due held came.begun levels output bytes few came.whole came.within
+  given_long = rows_due held came.begun levels output bytes few came.whole came.within
 
   pub gave : take (r.rows * w) r.output ≡ rows_given held levels
   gave =

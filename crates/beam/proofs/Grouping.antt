@@ -18,9 +18,9 @@ use Rattle.memory.specs.Memory.{row_at, width_of, height_of, came_of, rows_of, m
 use Rattle.scan.specs.Ring.{shown, last_two, held_in, later}
 use Rattle.scan.specs.Held.{Held, nothing, after, given, no_row}
 use Rattle.scan.specs.Scan.{Scanned, due, rows_given, end_given}
-use Rattle.scan.proofs.Calls.{levels-are}
-use Rattle.beam.specs.Calls.{Call, start-call, rows-call, end-call, CallIs, Made, Calls}
-use Rattle.beam.specs.Calls.{Told, told-nothing, since, given_out, tell_done, tell, told}
+use Rattle.scan.proofs.Calls.{levels_are}
+use Rattle.beam.specs.Calls.{Call, start_call, rows_call, end_call, CallIs, Made, Calls}
+use Rattle.beam.specs.Calls.{Told, told_nothing, since, given_out, tell_done, tell, told}
 use Rattle.beam.proofs.Whole.{rows_give}
 use Rattle.beam.proofs.Parts.{given_same, given_add, row_front, after_more, given_more, each_no_row}
 use Rattle.beam.proofs.Answers.{start_refused, start_done, rows_refused, Came, rows_done, end_refused, Finished, end_done}
@@ -113,7 +113,7 @@ module _ (held x g output : List ℕ) (r : Scanned) where
         few = in_reach;
         long =
             let a = so_far.long in
-            let b = levels-are held came.begun levels output bytes few came.whole came.within in
+            let b = levels_are held came.begun levels output bytes few came.whole came.within in
             length-append x levels ∙ rw (add-mul k n w) (omega (arith, a, b));
         holds =
             left_held held levels output r few bytes came
@@ -134,66 +134,66 @@ module _ (held x g output : List ℕ) (r : Scanned) where
       no_rows : n ≡ 0
       no_rows = let within = came.within in let p = over.past in omega (arith, within, p)
 
-      no-levels : levels ≡ []
-      no-levels =
-          let all = levels-are held came.begun levels output bytes few_past came.whole came.within in
+      no_levels : levels ≡ []
+      no_levels =
+          let all = levels_are held came.begun levels output bytes few_past came.whole came.within in
           no_elements levels (all ∙ ap (λ (z : ℕ). z * w) no_rows ∙ zero-mul w)
 
-      none-given : given_out w r ≡ []
-      none-given =
+      none_given : given_out w r ≡ []
+      none_given =
           let none : due k n * w ≡ 0 = ap (λ (z : ℕ). z * w) (let d : due k n ≡ 0 = omega (arith, no_rows) in d) ∙ zero-mul w in
           no_elements (given_out w r)
           (ap length (gave held levels output r few_past bytes came) ∙ given_long held levels output r few_past bytes came ∙ none)
 
-      then-past : Ended w h (x ++ levels) (g ++ given_out w r)
+      then_past : Ended w h (x ++ levels) (g ++ given_out w r)
           (memory w h (k + n) (later w h k (take (6147 - 3) (drop 3 held)) (row_at w levels) n) (drop 6147 held))
       unfolding memory
-      then-past = record {
+      then_past = record {
         begun = left_begun held levels output r few_past bytes came;
         width = refl;
         height = refl;
         past = let p = over.past in omega (arith, p, no_rows);
-        picture = rw (no-levels, append-nil x) over.picture;
-        whole = rw (no-levels, none-given, append-nil x, append-nil g) over.whole;
+        picture = rw (no_levels, append-nil x) over.picture;
+        whole = rw (no_levels, none_given, append-nil x, append-nil g) over.whole;
       }
 
-      stays-ended : Ended w h (x ++ levels) (g ++ given_out w r) r.held
-      stays-ended = subst (Ended w h (x ++ levels) (g ++ given_out w r)) (sym (left_is held levels output r few_past bytes came)) then-past
+      stays_ended : Ended w h (x ++ levels) (g ++ given_out w r) r.held
+      stays_ended = subst (Ended w h (x ++ levels) (g ++ given_out w r)) (sym (left_is held levels output r few_past bytes came)) then_past
 
   -- ---- the end that is given
   module _ (done : Finished held output r) where
     module _ (so_far : Running w h x g held) where
-      is-picture : length x ≡ w * h
-      is-picture = so_far.long ∙ ap (λ (z : ℕ). z * w) done.last ∙ mul_comm h w
+      is_picture : length x ≡ w * h
+      is_picture = so_far.long ∙ ap (λ (z : ℕ). z * w) done.last ∙ mul_comm h w
 
       -- the rows at the end are those of three rows more of nothing
-      last-rows : given_out w r ≡ given (after nothing (row_at w x) k) (row_at w []) 3
+      last_rows : given_out w r ≡ given (after nothing (row_at w x) k) (row_at w []) 3
       unfolding end_given
-      last-rows =
+      last_rows =
           end_gave held output r done
           ∙ ap (λ (q : Held). given q no_row 3) so_far.holds
           ∙ given_same (after nothing (row_at w x) k) no_row (row_at w []) 3 (λ i p. sym (each_no_row w i))
 
-      all-rows : g ++ given_out w r ≡ pass_three w h x
-      all-rows =
-          rw (last-rows, so_far.gave_all) (sym (given_more w k x [] so_far.long nothing 3))
+      all_rows : g ++ given_out w r ≡ pass_three w h x
+      all_rows =
+          rw (last_rows, so_far.gave_all) (sym (given_more w k x [] so_far.long nothing 3))
           ∙ ap (λ (z : List ℕ). given nothing (row_at w z) (k + 3)) (append-nil x)
           ∙ ap (λ (z : ℕ). given nothing (row_at w x) (z + 3)) done.last
-          ∙ rows_give w h x is-picture
+          ∙ rows_give w h x is_picture
 
-      then-ended : Ended w h x (g ++ given_out w r) (memory w h (h + 3) (zeros 6144) (drop 6147 held))
+      then_ended : Ended w h x (g ++ given_out w r) (memory w h (h + 3) (zeros 6144) (drop 6147 held))
       unfolding memory
-      then-ended = record {
+      then_ended = record {
         begun = begun_zeros w h (h + 3) (drop 6147 held) done.begun.width done.begun.height;
         width = refl;
         height = refl;
         past = refl;
-        picture = is-picture;
-        whole = all-rows;
+        picture = is_picture;
+        whole = all_rows;
       }
 
       ends : Ended w h x (g ++ given_out w r) r.held
-      ends = subst (Ended w h x (g ++ given_out w r)) (sym done.held-is) then-ended
+      ends = subst (Ended w h x (g ++ given_out w r)) (sym done.held-is) then_ended
 
     -- a second one is not
     no_second : Ended w h x g held → ⊥
@@ -202,35 +202,35 @@ module _ (held x g output : List ℕ) (r : Scanned) where
 -- ---- any list of calls
 -- what the memory means for what was told
 abbrev pub Means : Told → List ℕ → Type 0
-Means told-nothing held = Unit {0}
+Means told_nothing held = Unit {0}
 Means (since w h x g false) held = Running w h x g held
 Means (since w h x g true) held = Ended w h x g held
 
 -- a call that is done keeps that
 means_done : (t : Told) (held : List ℕ) (c : Call) (r : Scanned) → Means t held → r.number ≡ 0 → CallIs held c r
     → Means (tell_done t c r) r.held
-means_done t held (start-call w h) r m z is =
+means_done t held (start_call w h) r m z is =
     let s = start_done held r.held w h r.number z is.0 in
     subst (Running w h [] []) (sym s.left_is) (begins w h (drop 6147 held) s.width s.height)
-means_done told-nothing held (rows-call levels output) r m z is = tt
-means_done (since w h x g false) held (rows-call levels output) r m z is =
+means_done told_nothing held (rows_call levels output) r m z is = tt
+means_done (since w h x g false) held (rows_call levels output) r m z is =
     at_sides (λ a b. Running a b x g held → Running a b (x ++ levels) (g ++ given_out a r) r.held) m.width m.height
     (runs_on held x g output r levels is.0 (rows_done held levels output r z is.1)) m
-means_done (since w h x g true) held (rows-call levels output) r m z is =
+means_done (since w h x g true) held (rows_call levels output) r m z is =
     at_sides (λ a b. Ended a b x g held → Ended a b (x ++ levels) (g ++ given_out a r) r.held) m.width m.height
-    (stays-ended held x g output r levels is.0 (rows_done held levels output r z is.1)) m
-means_done told-nothing held (end-call output) r m z is = tt
-means_done (since w h x g false) held (end-call output) r m z is =
+    (stays_ended held x g output r levels is.0 (rows_done held levels output r z is.1)) m
+means_done told_nothing held (end_call output) r m z is = tt
+means_done (since w h x g false) held (end_call output) r m z is =
     at_sides (λ a b. Running a b x g held → Ended a b x (g ++ given_out a r) r.held) m.width m.height
     (ends held x g output r (end_done held output r z is)) m
-means_done (since w h x g true) held (end-call output) r m z is =
+means_done (since w h x g true) held (end_call output) r m z is =
     absurd (at_sides (λ a b. Ended a b x g held → ⊥) m.width m.height (no_second held x g output r (end_done held output r z is)) m)
 
 -- "A refused call changes nothing held."
 pub refused_keeps : (held : List ℕ) (c : Call) (r : Scanned) → r.number ≢ 0 → CallIs held c r → r.held ≡ held
-refused_keeps held (start-call w h) r some is = start_refused held r.held w h r.number some is.0
-refused_keeps held (rows-call levels output) r some is = rows_refused held levels output r some is.1
-refused_keeps held (end-call output) r some is = end_refused held output r some is
+refused_keeps held (start_call w h) r some is = start_refused held r.held w h r.number some is.0
+refused_keeps held (rows_call levels output) r some is = rows_refused held levels output r some is.1
+refused_keeps held (end_call output) r some is = end_refused held output r some is
 
 means_call : (t : Told) (held : List ℕ) (c : Call) (r : Scanned) → Means t held → CallIs held c r → Means (tell t c r) r.held
 means_call t held c r m is = elim (ℕ_discrete r.number 0) [
@@ -252,17 +252,17 @@ means t held (one ∷ ms) m calls =
 module _ (held : List ℕ) (ms : List Made) (w h : ℕ) (x g : List ℕ) (calls : Calls held ms) where
   -- once the end was given since the last good start, the levels taken together are a picture, and all rows given out together are the
   -- whole filter's output
-  pub rows_whole : told told-nothing ms ≡ since w h x g true → (length x ≡ w * h) × (g ≡ pass_three w h x)
+  pub rows_whole : told told_nothing ms ≡ since w h x g true → (length x ≡ w * h) × (g ≡ pass_three w h x)
   rows_whole is =
-      let over : Ended w h x g (left_by held ms) = subst (λ (t : Told). Means t (left_by held ms)) is (means told-nothing held ms tt calls) in
+      let over : Ended w h x g (left_by held ms) = subst (λ (t : Told). Means t (left_by held ms)) is (means told_nothing held ms tt calls) in
       (over.picture, over.whole)
 
   -- before that, after k rows, the rows given out together are the first k − 3 of it, whatever rows y follow
-  pub rows_so_far : told told-nothing ms ≡ since w h x g false
+  pub rows_so_far : told told_nothing ms ≡ since w h x g false
       → (k : ℕ) × (k ≤ h) × (length x ≡ k * w) × ((y : List ℕ) → length (x ++ y) ≡ w * h → g ≡ take ((k - 3) * w) (pass_three w h (x ++ y)))
   rows_so_far is =
       let so_far : Running w h x g (left_by held ms) =
-      subst (λ (t : Told). Means t (left_by held ms)) is (means told-nothing held ms tt calls) in
+      subst (λ (t : Told). Means t (left_by held ms)) is (means told_nothing held ms tt calls) in
       (came_of (left_by held ms), so_far.few, so_far.long, λ y l. first_rows so_far y l)
     where
       first_rows : Running w h x g (left_by held ms) → (y : List ℕ) → length (x ++ y) ≡ w * h

@@ -46,8 +46,8 @@ module _ (w h : ℕ) (levels filtered : List ℕ) (t : Tiled w h filtered) (all 
     long l is = let room = inside.0 in simp (length-take, length-drop) (omega arith)
 
     -- it has as many levels as filtered values, and at most 1,024
-    pub row-pair : SamePixels (row levels) (row filtered)
-    row-pair =
+    pub row_pair : SamePixels (row levels) (row filtered)
+    row_pair =
         let sides = t.sides in
         record {
           same = omega (arith, long levels all, long filtered t.whole);

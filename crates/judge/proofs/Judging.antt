@@ -17,7 +17,7 @@ use Rattle.judge.specs.Judge.{InRange, BrightInRange, DarkInRange, RatioIs, Test
 use Rattle.judge.specs.Measure.{Judged}
 use Rattle.judge.specs.Asked.{Tiled}
 use Rattle.judge.proofs.Maxima.{maximum_most, minimum_most}
-use Rattle.judge.proofs.Tiles.{tiles-most}
+use Rattle.judge.proofs.Tiles.{tiles_most}
 use Rattle.judge.proofs.Inner.{some_inner, few_inner}
 
 -- no test stops the judge
@@ -67,8 +67,8 @@ module _ (levels x : List ℕ) (w h : ℕ) (t : Tiled w h x) (D : ℕ) (spread_i
       record {
         count_low = some_inner w h t.measurable;
         count_high = few_inner w h t.sides;
-        bright_high = tiles-most w h x maximum 2040 (maximum_most 2040) t.small;
-        dark_high = tiles-most w h x minimum 2040 (minimum_most 2040) t.small;
+        bright_high = tiles_most w h x maximum 2040 (maximum_most 2040) t.small;
+        dark_high = tiles_most w h x minimum 2040 (minimum_most 2040) t.small;
         spread_high = small;
       }
 

@@ -29,8 +29,8 @@ module _ (levels : List ℕ) (w h : ℕ) (output work : List ℕ) where
     fitting r rest = passes_both f.shape (goes_on f.long_output (goes_on f.long_work rest))
 
     -- a side that cannot be measured
-    pub refused-by-five : (v : Verdict) → ¬ (MeasurableSide w × MeasurableSide h) → v ≡ refused 5 → MeasureIs levels w h output work (measurement v output work)
-    refused-by-five v not is = fitting (measurement v output work) (stops not (ap (λ (u : Verdict). measurement u output work) is))
+    pub refused_by_five : (v : Verdict) → ¬ (MeasurableSide w × MeasurableSide h) → v ≡ refused 5 → MeasureIs levels w h output work (measurement v output work)
+    refused_by_five v not is = fitting (measurement v output work) (stops not (ap (λ (u : Verdict). measurement u output work) is))
 
     -- a picture that is filtered: its output starts with pass three, which can be cut into tiles
     module _ (sides : MeasurableSide w × MeasurableSide h) (n : ℕ) (output' work' : List ℕ) (promise : FilterIs levels w h output work (outcome n output' work')) where

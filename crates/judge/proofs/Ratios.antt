@@ -133,23 +133,23 @@ module _ {N span D left right : ℕ} (sides : Sides N span D left right) where
   -- 16·p is at most the root of the left side, and 32·p is above it
   module _ {p : ℕ} (root : BelowRoot D p) where
     -- so a number that reaches is, with 138, at most the product over 16·p
-    at-most-16th : (k : ℕ) → Compared left right k → k + 138 ≤ product N span / (16 * p)
-    at-most-16th k h =
+    at_most_16th : (k : ℕ) → Compared left right k → k + 138 ≤ product N span / (16 * p)
+    at_most_16th k h =
         let x = k + 138 in
         let some : 0 < 16 * p = omega (arith, root.0) in
         (le-div_iff_mul-le some).1 (of_squares (omega (arith, mul-le-mul_left (x * x * 256) root.2, document_left (x * x), h, sides.right_is)))
 
     -- and a number that is, with 138, at most the product over 32·p reaches
-    reaches-32nd : (k : ℕ) → k + 138 ≤ product N span / (32 * p) → Compared left right k
-    reaches-32nd k h =
+    reaches_32nd : (k : ℕ) → k + 138 ≤ product N span / (32 * p) → Compared left right k
+    reaches_32nd k h =
         let x = k + 138 in
         let some : 0 < 32 * p = omega (arith, root.0) in
         let within : x * (32 * p) ≤ product N span = (le-div_iff_mul-le some).0 h in
         omega (arith, mul-le-mul within within, mul-le-mul_left (x * x * 256) root.3, document_left (x * x), sides.right_is)
 
     -- where 0 reaches, the product over 16·p is at least 138
-    pub quotient-least : Compared left right 0 → 138 ≤ product N span / (16 * p)
-    quotient-least = at-most-16th 0
+    pub quotient_least : Compared left right 0 → 138 ≤ product N span / (16 * p)
+    quotient_least = at_most_16th 0
 
     -- and halving starts from the product over 32·p to that over 16·p, the one less 138 and the other less 137
     pub starts : {lo : ℕ} → lo ≡ product N span / (32 * p) - 138 → Compared left right 0
@@ -158,9 +158,9 @@ module _ {N span D left right : ℕ} (sides : Sides N span D left right) where
         record {
           low = ⊎_elim
               (λ le. compared_falls left right lo 0 (omega (arith, le)) at-0)
-              (λ lt. reaches-32nd lo (omega (arith, lt)))
+              (λ lt. reaches_32nd lo (omega (arith, lt)))
               (le_or_lt (product N span / (32 * p)) 138);
-          high = λ (k : ℕ) (h : Compared left right k). omega (arith, at-most-16th k h);
+          high = λ (k : ℕ) (h : Compared left right k). omega (arith, at_most_16th k h);
         }
 
   -- what halving finds is the ratio

@@ -187,11 +187,11 @@ module _ (w h : ℕ) (filtered : List ℕ) where
 
   -- the sums over sixteen tiles are at most sixteen times what every value is
   module _ (f : List ℕ → ℕ) (b : ℕ) (p : (l : List ℕ) → AtMost b l → f l ≤ b) (q : AtMost b filtered) where
-    tile-most : (k a : ℕ) → f (tile w h filtered k a) ≤ b
-    tile-most k a = p (tile w h filtered k a) (rw (tile_is w h k a filtered) at (part_most b w (w / 4) (h / 4) (k * (h / 4) * w + a * (w / 4)) filtered q))
+    tile_most : (k a : ℕ) → f (tile w h filtered k a) ≤ b
+    tile_most k a = p (tile w h filtered k a) (rw (tile_is w h k a filtered) at (part_most b w (w / 4) (h / 4) (k * (h / 4) * w + a * (w / 4)) filtered q))
 
-    pub tiles-most : over_tiles f w h filtered ≤ 16 * b
+    pub tiles_most : over_tiles f w h filtered ≤ 16 * b
     unfolding over_tiles
-    tiles-most =
-        let band : (k : ℕ) → sum 4 (λ a. f (tile w h filtered k a)) ≤ 4 * b = λ k. sum_most b 4 (λ a. f (tile w h filtered k a)) (tile-most k) in
+    tiles_most =
+        let band : (k : ℕ) → sum 4 (λ a. f (tile w h filtered k a)) ≤ 4 * b = λ k. sum_most b 4 (λ a. f (tile w h filtered k a)) (tile_most k) in
         omega (arith, sum_most (4 * b) 4 (λ k. sum 4 (λ a. f (tile w h filtered k a))) band)

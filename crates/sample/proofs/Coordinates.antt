@@ -103,11 +103,11 @@ module _ (x : Sixteenths) (c : Coordinate) (at : Located x c) where
 
     -- where it has, it is, and the remainder is the definition's
     module _ (s : Surrounded side c.pixel) where
-      abbrev as-defined : Surrounded side (nat_of (pixel x))
-      as-defined = rw is_pixel at s
+      abbrev as_defined : Surrounded side (nat_of (pixel x))
+      as_defined = rw is_pixel at s
 
-      pub is-inside : Inside side (pixel x)
-      is-inside = surrounded_inside side (pixel x) as-defined
+      pub is_inside : Inside side (pixel x)
+      is_inside = surrounded_inside side (pixel x) as_defined
 
-      pub is-remainder : c.remainder ≡ remainder x
-      is-remainder = at.remainder ∙ sym (remainder_natural x.0 as-defined.before)
+      pub is_remainder : c.remainder ≡ remainder x
+      is_remainder = at.remainder ∙ sym (remainder_natural x.0 as_defined.before)

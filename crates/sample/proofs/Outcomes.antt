@@ -14,13 +14,13 @@ use Rattle.sample.specs.declared.Sampled.{Sampled}
 use Rattle.sample.specs.declared.Coordinate.{Coordinate}
 use Rattle.sample.specs.Cubic.{sample_of, pixel, remainder, sample_at, refused, SampleIs}
 use Rattle.sample.specs.Asked.{Surrounded, Located}
-use Rattle.sample.proofs.Coordinates.{inside_surrounded, is_pixel, is-remainder}
+use Rattle.sample.proofs.Coordinates.{inside_surrounded, is_pixel, is_remainder}
 
 -- the sum over the 4×4 levels around two coordinates as the code takes them apart is the sample there
 pub is_sample : (levels : List ℕ) {w h : ℕ} (x y : Sixteenths) (column row : Coordinate) {z : ℤ} → Located x column → Located y row → Surrounded w column.pixel → Surrounded h row.pixel
     → z ≡ sample_of levels w column.pixel row.pixel column.remainder row.remainder → z ≡ sample_at levels w x y
 is_sample levels {w} {h} x y column row at_x at_y in-x in-y is =
-    rw (is_pixel x column at_x, is-remainder x column at_x w in-x, is_pixel y row at_y, is-remainder y row at_y h in-y) at is
+    rw (is_pixel x column at_x, is_remainder x column at_x w in-x, is_pixel y row at_y, is_remainder y row at_y h in-y) at is
 
 -- any two outcomes that the promise permits are equal
 pub one_sample : (levels : List ℕ) (w h : ℕ) (x y : Sixteenths) (r r' : Sampled) → SampleIs levels w h x y r → SampleIs levels w h x y r' → r ≡ r'

@@ -72,22 +72,22 @@ module _ (levels : List ℕ) (bytes : AtMost 255 levels) where
 
   -- a row's terms, and its sums
   module _ (at k : ℕ) (small : k < 16) where
-    column-term-range : (t : ℕ) → t < 4 → RowRange (column_term levels at k t)
-    column-term-range t in-it = one_weighted of_levels k small t (pos (get_or levels (at + t) 0)) in-it (level_range (at + t))
+    column_term_range : (t : ℕ) → t < 4 → RowRange (column_term levels at k t)
+    column_term_range t in-it = one_weighted of_levels k small t (pos (get_or levels (at + t) 0)) in-it (level_range (at + t))
 
-    columns-range : (n : ℕ) → n ≤ 4 → RowRange (sumℤ n (column_term levels at k))
-    columns-range n few = some_weighted of_levels k small n (λ t. pos (get_or levels (at + t) 0)) few (λ t. level_range (at + t))
+    columns_range : (n : ℕ) → n ≤ 4 → RowRange (sumℤ n (column_term levels at k))
+    columns_range n few = some_weighted of_levels k small n (λ t. pos (get_or levels (at + t) 0)) few (λ t. level_range (at + t))
 
-    row-range : RowRange (row_sum levels at k)
+    row_range : RowRange (row_sum levels at k)
     unfolding row_sum
-    row-range = columns-range 4 (omega arith)
+    row_range = columns_range 4 (omega arith)
 
     -- they have room in 64 bits
     pub column_fits : (t : ℕ) → t < 4 → SFits w64 (column_term levels at k t)
-    column_fits t in-it = in_width w64 (column_term levels at k t) (column-term-range t in-it) (lit< tt) (lit< tt)
+    column_fits t in-it = in_width w64 (column_term levels at k t) (column_term_range t in-it) (lit< tt) (lit< tt)
 
-    pub columns-fit : (t : ℕ) → t < 4 → SFits w64 (sumℤ t (column_term levels at k) +ℤ column_term levels at k t)
-    columns-fit t in-it = next_in_width w64 (column_term levels at k) t (columns-range (t + 1) (omega arith)) (lit< tt) (lit< tt)
+    pub columns_fit : (t : ℕ) → t < 4 → SFits w64 (sumℤ t (column_term levels at k) +ℤ column_term levels at k t)
+    columns_fit t in-it = next_in_width w64 (column_term levels at k) t (columns_range (t + 1) (omega arith)) (lit< tt) (lit< tt)
 
   -- a sample's terms, and its sums
   module _ (w i j across down : ℕ) (small-across : across < 16) (small-down : down < 16) where
@@ -95,16 +95,16 @@ module _ (levels : List ℕ) (bytes : AtMost 255 levels) where
     row r = row_sum levels (row_start w i j r) across
 
     near : (r : ℕ) → RowRange (row r)
-    near r = row-range (row_start w i j r) across small-across
+    near r = row_range (row_start w i j r) across small-across
 
-    row-term-range : (r : ℕ) → r < 4 → SampleRange (row_term levels w i j across down r)
-    row-term-range r in-it = one_weighted of_rows down small-down r (row r) in-it (near r)
+    row_term_range : (r : ℕ) → r < 4 → SampleRange (row_term levels w i j across down r)
+    row_term_range r in-it = one_weighted of_rows down small-down r (row r) in-it (near r)
 
-    pub rows-range : (n : ℕ) → n ≤ 4 → SampleRange (sumℤ n (row_term levels w i j across down))
-    rows-range n few = some_weighted of_rows down small-down n row few near
+    pub rows_range : (n : ℕ) → n ≤ 4 → SampleRange (sumℤ n (row_term levels w i j across down))
+    rows_range n few = some_weighted of_rows down small-down n row few near
 
     pub row_fits : (r : ℕ) → r < 4 → SFits w64 (row_term levels w i j across down r)
-    row_fits r in-it = in_width w64 (row_term levels w i j across down r) (row-term-range r in-it) (lit< tt) (lit< tt)
+    row_fits r in-it = in_width w64 (row_term levels w i j across down r) (row_term_range r in-it) (lit< tt) (lit< tt)
 
     pub rows_fit : (r : ℕ) → r < 4 → SFits w64 (sumℤ r (row_term levels w i j across down) +ℤ row_term levels w i j across down r)
-    rows_fit r in-it = next_in_width w64 (row_term levels w i j across down) r (rows-range (r + 1) (omega arith)) (lit< tt) (lit< tt)
+    rows_fit r in-it = next_in_width w64 (row_term levels w i j across down) r (rows_range (r + 1) (omega arith)) (lit< tt) (lit< tt)

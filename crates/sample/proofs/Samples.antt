@@ -18,7 +18,7 @@ use Rattle.sample.specs.declared.Sampled.{Sampled}
 use Rattle.sample.specs.Cubic.{weight, sample_of, pixel, remainder, refused, SampleIs}
 use Rattle.sample.specs.Asked.{Surrounded, column_term, row_sum, row_start, row_term}
 use Rattle.sample.proofs.Weights.{weights_add}
-use Rattle.sample.proofs.Reach.{SampleRange, rows-range}
+use Rattle.sample.proofs.Reach.{SampleRange, rows_range}
 use Rattle.sample.proofs.Rows.{by_rows, four_in}
 use Rattle.sample.proofs.Coordinates.{place_is}
 use Rattle.sample.proofs.Outcomes.{when_done}
@@ -91,4 +91,4 @@ sample_range levels w h x y r bytes is = in_order r.value (go is)
     go (inr (s, inr (l, inl a))) = of-refusal a.1
     go (inr (s, inr (l, inr (i, e)))) =
         rw (e, by_rows levels w (nat_of (pixel x)) (nat_of (pixel y)) (remainder x) (remainder y))
-        (rows-range levels bytes w (nat_of (pixel x)) (nat_of (pixel y)) (remainder x) (remainder y) (place_is x).1 (place_is y).1 4 (omega arith))
+        (rows_range levels bytes w (nat_of (pixel x)) (nat_of (pixel y)) (remainder x) (remainder y) (place_is x).1 (place_is y).1 4 (omega arith))

@@ -18,7 +18,7 @@ use Rattle.scan.specs.Held.{Held, pass_three_row, step, after, given, no_row}
 use Rattle.scan.specs.Scan.{scanned, at_front, due, rows_given, rows_held, RowsIs, end_given, EndIs}
 use Rattle.scan.specs.Asked.{long, Ready, Coming}
 use Rattle.scan.proofs.Shown.{long_there, long_before, long_past}
-use Rattle.scan.proofs.Turns.{length_pass_three, ready-next, held_next, length-next}
+use Rattle.scan.proofs.Turns.{length_pass_three, ready_next, held_next, length_next}
 
 -- a call that is refused
 pub refused_is : {n number rows : ℕ} {held output : List ℕ} → (number ≡ n) × (rows ≡ 0)
@@ -51,7 +51,7 @@ module _ (w h k : ℕ) (rows : List ℕ) (f : ℕ → List ℕ) (ready : Ready w
       let here = fit n (omega arith) in
       let one_on : k + suc n ≡ k + n + 1 = omega arith in
       rw one_on (
-        ready-next w h (k + n) (later w h k rows f n) (f n) before.0 here.1 here.0 (omega arith),
+        ready_next w h (k + n) (later w h k rows f n) (f n) before.0 here.1 here.0 (omega arith),
         held_next w h (k + n) (later w h k rows f n) (f n) before.0 here.1 here.0
             ∙ ap (λ (held : Held). step held (f n)) before.1,
       )
@@ -62,7 +62,7 @@ module _ (w h k : ℕ) (rows : List ℕ) (f : ℕ → List ℕ) (ready : Ready w
   length_later (suc n) fit few =
       let before = so_far n (fewer n fit) (omega arith) in
       let here = fit n (omega arith) in
-      length-next w h (k + n) (later w h k rows f n) (f n) before.0 here.1 here.0 ∙ length_later n (fewer n fit) (omega arith)
+      length_next w h (k + n) (later w h k rows f n) (f n) before.0 here.1 here.0 ∙ length_later n (fewer n fit) (omega arith)
 
   -- how much they give
   pub length_given : (n : ℕ) → Fitting w h k f n → ((i : ℕ) → i < n → k + i < h + 3) → k + n ≤ 70000
@@ -120,31 +120,31 @@ module _ (held : List ℕ) (begun : Begun held) where
     pub levels_are : length levels ≡ n * w
     levels_are = let e = div-add-mod' (length levels) w in omega (arith, e, whole)
 
-    row-there : (i : ℕ) → i < n → long w h (k + i) 0 ≡ w
-    row-there i p = long_there h (k + i) 0 w (zero-le, omega arith)
+    row_there : (i : ℕ) → i < n → long w h (k + i) 0 ≡ w
+    row_there i p = long_there h (k + i) 0 w (zero-le, omega arith)
 
     pub rows_fit : Fitting w h k (row_at w levels) n
     rows_fit i p =
         let inside : i * w + w ≤ length levels = omega (arith, levels_are, mul-le-mul_right w p, suc-mul i w) in
-        (length_row_at w i levels inside ∙ sym (row-there i p), most_row_at 255 w i levels bytes)
+        (length_row_at w i levels inside ∙ sym (row_there i p), most_row_at 255 w i levels bytes)
 
-    pub rows-due : length (given (held_in w h k rows) (row_at w levels) n) ≡ due k n * w
-    rows-due =
+    pub rows_due : length (given (held_in w h k rows) (row_at w levels) n) ≡ due k n * w
+    rows_due =
         let height = begun.height.1 in
         length_given w h k rows (row_at w levels) (is_ready few) n rows_fit (λ i p. omega arith) (omega arith)
 
-    pub is-coming : due k n * w ≤ length output → Coming w h k w n rows levels output
-    is-coming room =
+    pub is_coming : due k n * w ≤ length output → Coming w h k w n rows levels output
+    is_coming room =
         let height = begun.height.1 in
-        record { few = omega arith; rows_are = row-there; levels_are = levels_are; room = rw rows-due room }
+        record { few = omega arith; rows_are = row_there; levels_are = levels_are; room = rw rows_due room }
 
     -- a call that is done
-    pub rows-done : (rows' out : List ℕ) (r : ℕ) → due k n * w ≤ length output → r ≡ due k n
+    pub rows_done : (rows' out : List ℕ) (r : ℕ) → due k n * w ≤ length output → r ≡ due k n
         → rows' ≡ later w h k rows (row_at w levels) n
         → out ≡ at_front (given (held_in w h k rows) (row_at w levels) n) output
         → RowsIs held levels output (scanned 0 r (set (take 3 held ++ (rows' ++ drop 6144 (drop 3 held))) 2 (k + n)) out)
     unfolding rows_given rows_held rows_of
-    rows-done rows' out r room is-r is-rows is-out =
+    rows_done rows' out r room is-r is-rows is-out =
         let long = begun.long in
         let left = count_set held (k + n) rows' (drop 6144 (drop 3 held)) (omega arith)
         ∙ ap (λ (z : List ℕ). memory w h (k + n) z (drop 6144 (drop 3 held))) is-rows
@@ -194,18 +194,18 @@ module _ (held : List ℕ) (begun : Begun held) (last : came_of held ≡ height_
   end_long = ap (λ (f : ℕ → List ℕ). length (given (held_in v g j six) f 3)) (sym no_rows) ∙ end_due
 
   module _ (output : List ℕ) (room : min 3 g * v ≤ length output) where
-    pub end-coming : Coming v g j 0 3 six [] output
-    end-coming =
+    pub end_coming : Coming v g j 0 3 six [] output
+    end_coming =
         let height = begun.height.1 in
         record { few = omega (arith, height, last); rows_are = λ i p. past_last i; levels_are = refl; room = rw end_due room }
 
     -- a call that is done
-    pub end-done : (rows' left out : List ℕ) (r : ℕ) → length rows' ≡ 6144 → r ≡ min 3 g
+    pub end_done : (rows' left out : List ℕ) (r : ℕ) → length rows' ≡ 6144 → r ≡ min 3 g
         → left ≡ memory v g (g + 3) (zeros 6144) (drop 6147 (take 3 held ++ (rows' ++ drop 6144 (drop 3 held))))
         → out ≡ at_front (given (held_in v g j six) (row_at 0 []) 3) output
         → EndIs held output (scanned 0 r left out)
     unfolding end_given rows_of
-    end-done rows' left out r rows_long is-r is-left is-out =
+    end_done rows' left out r rows_long is-r is-left is-out =
         let long = begun.long in
         let front : length (take 3 held ++ rows') ≡ 6147 = simp (length-append, length-take) (omega (arith, rows_long, long)) in
         let past : drop 6147 (take 3 held ++ (rows' ++ drop 6144 (drop 3 held))) ≡ drop 6147 held =

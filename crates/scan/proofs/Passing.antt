@@ -13,8 +13,8 @@ use Rattle.scan.proofs.SixRows.{length_two_of}
 use Rattle.scan.specs.Held.{Held, completed, pass_one_row, pass_two_row, pass_three_row}
 use Rattle.scan.specs.Asked.{long, Below, Ready}
 use Rattle.scan.proofs.Shown.{none_or_long}
-use Rattle.scan.proofs.Twos.{length-replaced}
-use Rattle.scan.proofs.Turns.{length_pass_one, length_pass_two, most-pass-one, most-pass-two}
+use Rattle.scan.proofs.Twos.{length_replaced}
+use Rattle.scan.proofs.Turns.{length_pass_one, length_pass_two, most_pass_one, most_pass_two}
 
 -- what was written to the front of x
 pub front_is : (n : ℕ) (x row rest : List ℕ) → x ≡ row ++ rest → length row ≡ n → take n x ≡ row
@@ -61,31 +61,31 @@ module _ {w h k : ℕ} {rows levels : List ℕ} (arriving : Arriving w h k rows 
       below 1 2 (omega arith) (omega arith) (pass_one_row before levels)
       (λ i. omega (arith, arriving.ready.ranges.halves i))
       (rw length_pass_one_row (none_or_long h k 1 w))
-      (λ i. omega (arith, most-pass-one w h k rows levels arriving.ready arriving.bytes i))
+      (λ i. omega (arith, most_pass_one w h k rows levels arriving.ready arriving.bytes i))
 
   pub below_pass_two : (two part : List ℕ) → two ≡ two_of w rows 2 → part ≡ pass_two_row before levels → Below w k 3 two part
   below_pass_two =
       below 2 3 (omega arith) (omega arith) (pass_two_row before levels)
       arriving.ready.ranges.quarters
       (rw length_pass_two_row (none_or_long h k 2 w))
-      (most-pass-two w h k rows levels arriving.ready arriving.bytes)
+      (most_pass_two w h k rows levels arriving.ready arriving.bytes)
 
   -- ---- what each pass gives
   module _ (two part x rest : List ℕ) where
-    pub pass-one-is-row : two ≡ two_of w rows 0 → part ≡ levels → x ≡ completed (last_two w h k 1 two) part ++ rest
+    pub pass_one_is_row : two ≡ two_of w rows 0 → part ≡ levels → x ≡ completed (last_two w h k 1 two) part ++ rest
         → x ≡ pass_one_row before levels ++ rest
     unfolding pass_one_row held_in
-    pass-one-is-row e f is = is ∙ rw (e, f)
+    pass_one_is_row e f is = is ∙ rw (e, f)
 
-    pub pass-two-is-row : two ≡ two_of w rows 1 → part ≡ pass_one_row before levels → x ≡ completed (last_two w h k 2 two) part ++ rest
+    pub pass_two_is_row : two ≡ two_of w rows 1 → part ≡ pass_one_row before levels → x ≡ completed (last_two w h k 2 two) part ++ rest
         → x ≡ pass_two_row before levels ++ rest
     unfolding pass_two_row held_in
-    pass-two-is-row e f is = is ∙ rw (e, f)
+    pass_two_is_row e f is = is ∙ rw (e, f)
 
-    pub pass-three-is-row : two ≡ two_of w rows 2 → part ≡ pass_two_row before levels → x ≡ completed (last_two w h k 3 two) part ++ rest
+    pub pass_three_is_row : two ≡ two_of w rows 2 → part ≡ pass_two_row before levels → x ≡ completed (last_two w h k 3 two) part ++ rest
         → x ≡ pass_three_row before levels ++ rest
     unfolding pass_three_row held_in
-    pass-three-is-row e f is = is ∙ rw (e, f)
+    pass_three_is_row e f is = is ∙ rw (e, f)
 
   pub two_are : (pass : ℕ) (two part x row : List ℕ) → two ≡ two_of w rows pass → part ≡ row → x ≡ replaced w k two part
       → x ≡ replaced w k (two_of w rows pass) row
@@ -94,7 +94,7 @@ module _ {w h k : ℕ} {rows levels : List ℕ} (arriving : Arriving w h k rows 
   pub length_two_are : (pass late : ℕ) → pass ≤ 2 → (x row : List ℕ) → length row ≡ long w h k late
       → x ≡ replaced w k (two_of w rows pass) row → length x ≡ w + w
   length_two_are pass late few x row row_long is =
-      ap length is ∙ length-replaced w h k late (two_of w rows pass) row (length_two_of w pass rows arriving.ready.room few) row_long
+      ap length is ∙ length_replaced w h k late (two_of w rows pass) row (length_two_of w pass rows arriving.ready.room few) row_long
 
   pub rows_are : (x a b c : List ℕ) → x ≡ a ++ b ++ c ++ drop (6 * w) rows → a ≡ replaced w k (two_of w rows 0) levels
       → b ≡ replaced w k (two_of w rows 1) (pass_one_row before levels) → c ≡ replaced w k (two_of w rows 2) (pass_two_row before levels)

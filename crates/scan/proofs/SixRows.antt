@@ -24,13 +24,13 @@ module _ (w : ℕ) (rows : List ℕ) where
     abbrev once : List ℕ
     once = a ++ drop (w + w) rows
 
-    behind-a : drop (w + w) once ≡ drop (w + w) rows
-    behind-a = drop_at a (drop (w + w) rows) (w + w) long-a
+    behind_a : drop (w + w) once ≡ drop (w + w) rows
+    behind_a = drop_at a (drop (w + w) rows) (w + w) long-a
 
-    pub second-two : take (w + w + (w + w) - (w + w)) (drop (w + w) once) ≡ two_of w rows 1
+    pub second_two : take (w + w + (w + w) - (w + w)) (drop (w + w) once) ≡ two_of w rows 1
     unfolding two_of
-    second-two =
-        ap (take (w + w + (w + w) - (w + w))) behind-a ∙ part_row (w + w) 1 (w + w) (w + w + (w + w)) rows (omega arith) (omega arith)
+    second_two =
+        ap (take (w + w + (w + w) - (w + w))) behind_a ∙ part_row (w + w) 1 (w + w) (w + w + (w + w)) rows (omega arith) (omega arith)
 
     module _ (b : List ℕ) (long-b : length b ≡ w + w) where
       abbrev twice : List ℕ
@@ -41,18 +41,18 @@ module _ (w : ℕ) (rows : List ℕ) where
           let back : drop (w + w + (w + w) - (w + w)) (drop (w + w) rows) ≡ drop (w + w + (w + w)) rows =
           drop-drop (w + w + (w + w) - (w + w)) (w + w) rows
           ∙ ap (λ (n : ℕ). drop n rows) (let e : w + w + (w + w + (w + w) - (w + w)) ≡ w + w + (w + w) = omega arith in e) in
-          rw (take_at a (drop (w + w) rows) (w + w) long-a, behind-a, back) (sym (append_assoc a b (drop (w + w + (w + w)) rows)))
+          rw (take_at a (drop (w + w) rows) (w + w) long-a, behind_a, back) (sym (append_assoc a b (drop (w + w + (w + w)) rows)))
 
-      long-ab : length (a ++ b) ≡ w + w + (w + w)
-      long-ab = length-append a b ∙ omega (arith, long-a, long-b)
+      long_ab : length (a ++ b) ≡ w + w + (w + w)
+      long_ab = length-append a b ∙ omega (arith, long-a, long-b)
 
-      behind-b : drop (w + w + (w + w)) twice ≡ drop (w + w + (w + w)) rows
-      behind-b = ap (drop (w + w + (w + w))) both ∙ drop_at (a ++ b) (drop (w + w + (w + w)) rows) (w + w + (w + w)) long-ab
+      behind_b : drop (w + w + (w + w)) twice ≡ drop (w + w + (w + w)) rows
+      behind_b = ap (drop (w + w + (w + w))) both ∙ drop_at (a ++ b) (drop (w + w + (w + w)) rows) (w + w + (w + w)) long_ab
 
-      pub third-two : take (w + w + (w + w) + (w + w) - (w + w + (w + w))) (drop (w + w + (w + w)) twice) ≡ two_of w rows 2
+      pub third_two : take (w + w + (w + w) + (w + w) - (w + w + (w + w))) (drop (w + w + (w + w)) twice) ≡ two_of w rows 2
       unfolding two_of
-      third-two =
-          ap (take (w + w + (w + w) + (w + w) - (w + w + (w + w)))) behind-b
+      third_two =
+          ap (take (w + w + (w + w) + (w + w) - (w + w + (w + w)))) behind_b
           ∙ part_row (w + w) 2 (w + w + (w + w)) (w + w + (w + w) + (w + w)) rows (omega arith) (omega arith)
 
       pub all_three : (c : List ℕ)
@@ -60,12 +60,12 @@ module _ (w : ℕ) (rows : List ℕ) where
           ≡ a ++ b ++ c ++ drop (6 * w) rows
       all_three c =
           let front : take (w + w + (w + w)) twice ≡ a ++ b =
-          ap (take (w + w + (w + w))) both ∙ take_at (a ++ b) _ (w + w + (w + w)) long-ab in
+          ap (take (w + w + (w + w))) both ∙ take_at (a ++ b) _ (w + w + (w + w)) long_ab in
           let back : drop (w + w + (w + w) + (w + w) - (w + w + (w + w))) (drop (w + w + (w + w)) rows) ≡ drop (6 * w) rows =
           drop-drop (w + w + (w + w) + (w + w) - (w + w + (w + w))) (w + w + (w + w)) rows
           ∙ ap (λ (n : ℕ). drop n rows)
           (let e : w + w + (w + w) + (w + w + (w + w) + (w + w) - (w + w + (w + w))) ≡ 6 * w = omega arith in e) in
-          rw (front, behind-b, back) (sym (append_assoc (a ++ b) c (drop (6 * w) rows)))
+          rw (front, behind_b, back) (sym (append_assoc (a ++ b) c (drop (6 * w) rows)))
 
 -- and the two by two of such six
 module _ (w : ℕ) (a b c rest : List ℕ) (long-a : length a ≡ w + w) (long-b : length b ≡ w + w) (long-c : length c ≡ w + w) where
@@ -84,8 +84,8 @@ module _ (w : ℕ) (a b c rest : List ℕ) (long-a : length a ≡ w + w) (long-b
   pub two_third : two_of w (a ++ b ++ c ++ rest) 2 ≡ c
   unfolding two_of
   two_third =
-      let long-ab : length (a ++ b) ≡ 2 * (w + w) = length-append a b ∙ omega (arith, long-a, long-b) in
-      row_at_between (w + w) 2 (a ++ b) c rest long-ab long-c
+      let long_ab : length (a ++ b) ≡ 2 * (w + w) = length-append a b ∙ omega (arith, long-a, long-b) in
+      row_at_between (w + w) 2 (a ++ b) c rest long_ab long-c
 
 -- ---- the count of rows, set before rows that came back
 pub count_set : (held : List ℕ) (k : ℕ) (rows past : List ℕ) → 3 ≤ length held

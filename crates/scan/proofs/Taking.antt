@@ -15,7 +15,7 @@ use Rattle.scan.specs.Ring.{held_in, next, later}
 use Rattle.scan.specs.Held.{Held, pass_three_row, step, after, given}
 use Rattle.scan.specs.Scan.{at_front}
 use Rattle.scan.specs.Asked.{long, Ready}
-use Rattle.scan.proofs.Turns.{length_pass_three, ready-next, held_next}
+use Rattle.scan.proofs.Turns.{length_pass_three, ready_next, held_next}
 
 -- rows given out only grow
 joined_grows : (g : ℕ → List ℕ) (i n : ℕ) → i ≤ n → length (joined i g) ≤ length (joined n g)
@@ -62,17 +62,17 @@ module _ (w h k : ℕ) (rows₀ : List ℕ) (f : ℕ → List ℕ) (o₀ : List 
     abbrev more : List ℕ
     more = pass_three_row (after start f i) (f i)
 
-    more-is : pass_three_row (held_in w h (k + i) rows) (f i) ≡ more
-    more-is = ap (λ (held : Held). pass_three_row held (f i)) so_far.hold
+    more_is : pass_three_row (held_in w h (k + i) rows) (f i) ≡ more
+    more_is = ap (λ (held : Held). pass_three_row held (f i)) so_far.hold
 
-    more-long : length more ≡ long w h (k + i) 3
-    more-long = ap length (sym more-is) ∙ length_pass_three w h (k + i) rows (f i) so_far.ready
+    more_long : length more ≡ long w h (k + i) 3
+    more_long = ap length (sym more_is) ∙ length_pass_three w h (k + i) rows (f i) so_far.ready
 
     -- how much is written with it
-    pub given-count : length (given start f (i + 1)) ≡ done + long w h (k + i) 3
-    given-count =
+    pub given_count : length (given start f (i + 1)) ≡ done + long w h (k + i) 3
+    given_count =
         let c = so_far.count in
-        ap length (given_suc i) ∙ length-append (given start f i) more ∙ omega (arith, c, more-long)
+        ap length (given_suc i) ∙ length-append (given start f i) more ∙ omega (arith, c, more_long)
 
     -- one row more: its row of pass three is written behind those before it
     pub taken_more : (to : ℕ) (rows' o' new : List ℕ) → length (f i) ≡ long w h (k + i) 0 → AtMost 255 (f i) → k + i + 1 ≤ 70000
@@ -88,20 +88,20 @@ module _ (w h k : ℕ) (rows₀ : List ℕ) (f : ℕ → List ℕ) (o₀ : List 
         let before : take done o ≡ g = ap (take done) so_far.written ∙ take_at g (drop (length g) o₀) done (sym so_far.count) in
         let behind : drop done o ≡ drop (length g) o₀ =
         ap (drop done) so_far.written ∙ drop_at g (drop (length g) o₀) done (sym so_far.count) in
-        let new_is : new ≡ more ++ drop (length more) (drop (length g) o₀) = is-new ∙ rw (more-is, behind, more-long) in
+        let new_is : new ≡ more ++ drop (length more) (drop (length g) o₀) = is-new ∙ rw (more_is, behind, more_long) in
         let rest : drop (length more) (drop (length g) o₀) ≡ drop (length (g ++ more)) o₀ =
         drop-drop (length more) (length g) o₀ ∙ ap (λ (n : ℕ). drop n o₀) (sym (length-append g more)) in
         record {
           ready =
               subst (λ (n : ℕ). Ready w h n rows') (sym one_on)
-              (subst (Ready w h (k + i + 1)) (sym is-rows) (ready-next w h (k + i) rows (f i) so_far.ready levels row_long few));
+              (subst (Ready w h (k + i + 1)) (sym is-rows) (ready_next w h (k + i) rows (f i) so_far.ready levels row_long few));
           are = is-rows ∙ rw (add-one i) (ap (λ (m : List ℕ). next w h (k + i) m (f i)) so_far.are);
           hold =
               ap (λ (n : ℕ). held_in w h n rows') one_on
               ∙ ap (held_in w h (k + i + 1)) is-rows
               ∙ held_next w h (k + i) rows (f i) so_far.ready levels row_long
               ∙ rw (add-one i) (ap (λ (held : Held). step held (f i)) so_far.hold);
-          count = is-to ∙ sym given-count;
+          count = is-to ∙ sym given_count;
           written = is-o ∙ rw (before, new_is, given_suc i) (sym (append_assoc g more _) ∙ ap (λ (z : List ℕ). g ++ more ++ z) rest);
         }
 

@@ -123,14 +123,14 @@ module _ (w h k late : ℕ) (two row : List ℕ) where
     inside : k % 2 * w + w ≤ length two
     inside = omega (arith, place_inside w (k % 2) (omega arith), room)
 
-    pub length-replaced : length (replaced w k two row) ≡ w + w
+    pub length_replaced : length (replaced w k two row) ≡ w + w
     unfolding replaced
-    length-replaced = length_over two (k % 2 * w) row (omega (arith, inside, few)) ∙ room
+    length_replaced = length_over two (k % 2 * w) row (omega (arith, inside, few)) ∙ room
 
     -- the newer one is the older one now
-    older-is : shown h (k + 1) (late + 1 + 1) (row_at w (over two (k % 2 * w) row) ((k + 1) % 2))
+    older_is : shown h (k + 1) (late + 1 + 1) (row_at w (over two (k % 2 * w) row) ((k + 1) % 2))
         ≡ shown h k (late + 1) (row_at w two ((k + 1) % 2))
-    older-is =
+    older_is =
         shown_next h k (late + 1) (row_at w (over two (k % 2 * w) row) ((k + 1) % 2))
         ∙ ap (shown h k (late + 1)) (row_at_other w (k % 2) two row few inside ((k + 1) % 2) (λ e. omega (arith, e)))
 
@@ -141,13 +141,13 @@ module _ (w h k late : ℕ) (two row : List ℕ) where
       | inr n ↦ shown_not h k late _ n ∙ sym (no_elements row (row_long ∙ long_not h k late w n))
     ]
 
-    newer-is : shown h (k + 1) (late + 1) (row_at w (over two (k % 2 * w) row) ((k + 1 + 1) % 2)) ≡ row
-    newer-is =
+    newer_is : shown h (k + 1) (late + 1) (row_at w (over two (k % 2 * w) row) ((k + 1 + 1) % 2)) ≡ row
+    newer_is =
         let again : (k + 1 + 1) % 2 ≡ k % 2 = omega arith in
         ap (λ (i : ℕ). shown h (k + 1) (late + 1) (row_at w (over two (k % 2 * w) row) i)) again
         ∙ shown_next h k late (row_at w (over two (k % 2 * w) row) (k % 2))
         ∙ in_place
 
-    pub two-next : last_two w h (k + 1) (late + 1) (replaced w k two row) ≡ followed (last_two w h k (late + 1) two) row
+    pub two_next : last_two w h (k + 1) (late + 1) (replaced w k two row) ≡ followed (last_two w h k (late + 1) two) row
     unfolding last_two replaced followed
-    two-next = λ i. record { older = older-is i; newer = newer-is i }
+    two_next = λ i. record { older = older_is i; newer = newer_is i }

@@ -15,7 +15,7 @@ use Rattle.arithmetic.proofs.Greatest.{one_least, least_found}
 use Rattle.threshold.specs.Histogram.{total}
 use Rattle.threshold.specs.TwoMeans.{start, round, Within, Rests, threshold, LiesBetween, Settled}
 use Rattle.threshold.proofs.Rounds.{same_threshold}
-use Rattle.threshold.proofs.Sequence.{round-within, threshold_within, rests_or_not, given_back, stays-above, stays-below, comes-to-rest}
+use Rattle.threshold.proofs.Sequence.{round_within, threshold_within, rests_or_not, given_back, stays_above, stays_below, comes_to_rest}
 
 -- threshold k at rest
 abbrev pub RestsAt : ℕ → List ℕ → ℕ → Type 0
@@ -30,18 +30,18 @@ module _ (m : ℕ) (h : List ℕ) (some : 0 < total h) where
     answer = round h T
 
     in_time : k ≤ 2 * length h - 1
-    in_time = let r = comes-to-rest h some m in omega (arith, first.least r.0 r.2, r.1)
+    in_time = let r = comes_to_rest h some m in omega (arith, first.least r.0 r.2, r.1)
 
     within : Within h answer
-    within = round-within h some T (threshold_within h some m k)
+    within = round_within h some T (threshold_within h some m k)
 
     midpoint : round h answer ≡ answer
     midpoint = same_threshold h answer T within.proper (threshold_within h some m k).proper first.holds.still
 
     no_other : (R : Fraction) → Rests h R → LiesBetween (start m h) answer R → Equal R answer
     unfolding threshold
-    no_other R r (inl up) = le_antisymm up.1 (stays-above h some m R r up.0 (suc k))
-    no_other R r (inr down) = le_antisymm (stays-below h some m R r down.1 (suc k)) down.0
+    no_other R r (inl up) = le_antisymm up.1 (stays_above h some m R r up.0 (suc k))
+    no_other R r (inr down) = le_antisymm (stays_below h some m R r down.1 (suc k)) down.0
 
     moved : (j : ℕ) → j < k → ¬ Equal (threshold m h (suc j)) (threshold m h j)
     moved j sooner still = let late : k ≤ j = first.least j (given_back h some m j still) in omega arith
@@ -62,7 +62,7 @@ module _ (m : ℕ) (h : List ℕ) (some : 0 < total h) where
   -- demand 3
   pub demand : (k : ℕ) × (T : Fraction) × Settled m h k T
   demand =
-      let r = comes-to-rest h some m in
+      let r = comes_to_rest h some m in
       let f = least_found (λ j. rests_or_not h (threshold m h j)) r.0 r.2 in
       (f.0, round h (threshold m h f.0), settled f.0 f.1)
 

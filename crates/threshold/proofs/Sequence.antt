@@ -129,29 +129,29 @@ module _ (h : List ℕ) (some : 0 < total h) where
 
   -- the lowest level is up to T, and the highest from T on
   module _ (T : Fraction) (w : Within h T) where
-    low-has : (f : ℕ → ℕ) → f (lowest h) ≤ sum_over (length h) (low T) f
-    low-has f =
+    low_has : (f : ℕ → ℕ) → f (lowest h) ≤ sum_over (length h) (low T) f
+    low_has f =
         over_has (length h) (low T) f (lowest h) (lowest_below h some)
         (le-leb (lowest h * T.denominator) T.numerator (omega (arith, w.from_lowest)))
 
-    high-has : (f : ℕ → ℕ) → f (highest h) ≤ sum_over (length h) (high T) f
-    high-has f =
+    high_has : (f : ℕ → ℕ) → f (highest h) ≤ sum_over (length h) (high T) f
+    high_has f =
         over_has (length h) (high T) f (highest h) (highest_below h some)
         (le-leb T.numerator (highest h * T.denominator) (omega (arith, w.to_highest)))
 
     -- so there are levels on both sides
-    pub low-some : 0 < low_number h T
-    low-some = lt_of_lt_of_le (lowest_is h some).holds (low-has (count_of h))
+    pub low_some : 0 < low_number h T
+    low_some = lt_of_lt_of_le (lowest_is h some).holds (low_has (count_of h))
 
-    pub high-some : 0 < high_number h T
-    high-some = lt_of_lt_of_le (highest_is h some).holds (high-has (count_of h))
+    pub high_some : 0 < high_number h T
+    high_some = lt_of_lt_of_le (highest_is h some).holds (high_has (count_of h))
 
     -- and a round stays from the lowest to the highest level
-    pub round-within : Within h (round h T)
+    pub round_within : Within h (round h T)
     unfolding round
-    round-within =
+    round_within =
         record {
-          proper = mul-pos {m = 2 * low_number h T} {n = high_number h T} (omega (arith, low-some)) high-some;
+          proper = mul-pos {m = 2 * low_number h T} {n = high_number h T} (omega (arith, low_some)) high_some;
           from_lowest =
               omega (
                 arith,
@@ -167,9 +167,9 @@ module _ (h : List ℕ) (some : 0 < total h) where
         }
 
     -- where there are n levels, the positions are 1 to 2·n − 1
-    position-within : (0 < position h T) × (position h T ≤ 2 * length h - 1)
+    position_within : (0 < position h T) × (position h T ≤ 2 * length h - 1)
     unfolding position
-    position-within = omega (arith, low-has one, high-has one, at_most_all (length h) (low T), at_most_all (length h) (high T))
+    position_within = omega (arith, low_has one, high_has one, at_most_all (length h) (low T), at_most_all (length h) (high T))
 
   -- the start and all that follows lie from the lowest to the highest level
   pub start_within : (m : ℕ) → Within h (start m h)
@@ -181,7 +181,7 @@ module _ (h : List ℕ) (some : 0 < total h) where
   pub threshold_within : (m k : ℕ) → Within h (threshold m h k)
   unfolding threshold
   threshold_within m zero = start_within m
-  threshold_within m (suc k) = round-within (threshold m h k) (threshold_within m k)
+  threshold_within m (suc k) = round_within (threshold m h k) (threshold_within m k)
 
   -- thresholds S of which each is what a round makes of the one before
   record Follows (S : ℕ → Fraction) : Type 0 where
@@ -192,8 +192,8 @@ module _ (h : List ℕ) (some : 0 < total h) where
   in_order : (S R : ℕ → Fraction) → Follows S → Follows R → NotMore (S 0) (R 0) → (k : ℕ) → NotMore (S k) (R k)
   in_order S R s r l zero = l
   in_order S R s r l (suc k) =
-      not_more_trans (S (suc k)) (round h (S k)) (R (suc k)) (round-within (S k) (s.within k)).proper (le_of_eq (sym (s.next k)))
-      (not_more_trans (round h (S k)) (round h (R k)) (R (suc k)) (round-within (R k) (r.within k)).proper
+      not_more_trans (S (suc k)) (round h (S k)) (R (suc k)) (round_within (S k) (s.within k)).proper (le_of_eq (sym (s.next k)))
+      (not_more_trans (round h (S k)) (round h (R k)) (R (suc k)) (round_within (R k) (r.within k)).proper
       (round_keeps_order h (S k) (R k) (s.within k).proper (r.within k).proper (in_order S R s r l k))
       (le_of_eq (r.next k)))
 
@@ -216,13 +216,13 @@ module _ (h : List ℕ) (some : 0 < total h) where
     later = record { within = λ k. thresholds.within (suc k); next = λ k. thresholds.next (suc k) }
 
     -- what rests above the start stays above all thresholds, and what rests below it stays below
-    pub stays-above : (R : Fraction) → Rests h R → NotMore (start m h) R → (k : ℕ) → NotMore (threshold m h k) R
+    pub stays_above : (R : Fraction) → Rests h R → NotMore (start m h) R → (k : ℕ) → NotMore (threshold m h k) R
     unfolding threshold
-    stays-above R r = in_order (threshold m h) (λ k. R) thresholds (resting R r)
+    stays_above R r = in_order (threshold m h) (λ k. R) thresholds (resting R r)
 
-    pub stays-below : (R : Fraction) → Rests h R → NotMore R (start m h) → (k : ℕ) → NotMore R (threshold m h k)
+    pub stays_below : (R : Fraction) → Rests h R → NotMore R (start m h) → (k : ℕ) → NotMore R (threshold m h k)
     unfolding threshold
-    stays-below R r = in_order (λ k. R) (threshold m h) (resting R r) thresholds
+    stays_below R r = in_order (λ k. R) (threshold m h) (resting R r) thresholds
 
     -- the sequence goes one way
     pub one_way : ((k : ℕ) → NotMore (threshold m h k) (threshold m h (suc k))) ⊎ ((k : ℕ) → NotMore (threshold m h (suc k)) (threshold m h k))
@@ -233,25 +233,25 @@ module _ (h : List ℕ) (some : 0 < total h) where
         (either_way (threshold m h 0) (threshold m h 1))
 
     -- a round within one position ends at rest
-    rests-there : (k : ℕ) → position h (threshold m h (suc k)) ≡ position h (threshold m h k) → Rests h (threshold m h (suc k))
+    rests_there : (k : ℕ) → position h (threshold m h (suc k)) ≡ position h (threshold m h k) → Rests h (threshold m h (suc k))
     unfolding threshold
-    rests-there k e =
+    rests_there k e =
         let T : Fraction = threshold m h k in
         let U : Fraction = threshold m h (suc k) in
         let w : Within h U = threshold_within m (suc k) in
         given_back (suc k) (subst (λ (R : Fraction). Equal R U) (same_position h T U (threshold_within m k).proper w.proper (sym e)) refl)
 
     -- the positions go one way too
-    positions-one-way : ((k : ℕ) → position h (threshold m h k) ≤ position h (threshold m h (suc k)))
+    positions_one_way : ((k : ℕ) → position h (threshold m h k) ≤ position h (threshold m h (suc k)))
         ⊎ ((k : ℕ) → position h (threshold m h (suc k)) ≤ position h (threshold m h k))
-    positions-one-way =
+    positions_one_way =
         ⊎_elim (λ up. inl (λ k. grows k (suc k) (up k))) (λ down. inr (λ k. grows (suc k) k (down k))) one_way
       where
         grows : (j k : ℕ) → NotMore (threshold m h j) (threshold m h k) → position h (threshold m h j) ≤ position h (threshold m h k)
         grows j k = position_grows h (threshold m h j) (threshold m h k) (threshold_within m j).proper (threshold_within m k).proper
 
     -- so the sequence comes to rest, after at most 2·n − 1 rounds
-    pub comes-to-rest : (k : ℕ) × (k ≤ 2 * length h - 1) × Rests h (threshold m h k)
-    comes-to-rest =
-        let r = stands_still (2 * length h - 1) (λ k. position h (threshold m h k)) (λ k. position-within (threshold m h k) (threshold_within m k)) positions-one-way in
-        (suc r.0, r.1, rests-there r.0 r.2)
+    pub comes_to_rest : (k : ℕ) × (k ≤ 2 * length h - 1) × Rests h (threshold m h k)
+    comes_to_rest =
+        let r = stands_still (2 * length h - 1) (λ k. position h (threshold m h k)) (λ k. position_within (threshold m h k) (threshold_within m k)) positions_one_way in
+        (suc r.0, r.1, rests_there r.0 r.2)

@@ -15,7 +15,7 @@ use Rattle.threshold.specs.Asked.{Small}
 use Rattle.threshold.proofs.Present.{highest_below}
 use Rattle.threshold.proofs.Rounds.{same_pair}
 use Rattle.threshold.proofs.Tables.{denominator_small}
-use Rattle.threshold.proofs.Sequence.{low-some, high-some, start_within, threshold_within, given_back, comes-to-rest}
+use Rattle.threshold.proofs.Sequence.{low_some, high_some, start_within, threshold_within, given_back, comes_to_rest}
 use Rattle.threshold.proofs.Demand.{RestsAt, settled}
 
 -- Before a test of the loop: `next` is the threshold after the k-th, none before the k-th rests, and `t` and `next` are one pair exactly
@@ -75,14 +75,14 @@ module _ (m : ℕ) (h : List ℕ) (some : 0 < total h) where
           let w = threshold_within h some m (suc k) in
           let u = threshold_within h some m k in
           same_pair h (threshold m h (suc k)) (threshold m h k) w.proper u.proper
-          (low-some h some (threshold m h (suc k)) w) (high-some h some (threshold m h (suc k)) w)
-          (low-some h some (threshold m h k) u) (high-some h some (threshold m h k) u)
+          (low_some h some (threshold m h (suc k)) w) (high_some h some (threshold m h (suc k)) w)
+          (low_some h some (threshold m h k) u) (high_some h some (threshold m h k) u)
           r.still
 
   -- there is a round more to go only before the last that may come
   pub still_time : (k : ℕ) (t next : Fraction) → Going m h k t next → ¬ (t ≡ next) → k < 2 * length h - 1
   still_time k t next g moved =
-      let r = comes-to-rest h some m in
+      let r = comes_to_rest h some m in
       omega (arith, r.1, not_yet g.not_before (λ now. moved (g.rests_same now)) r.0 r.2)
 
   -- at rest

@@ -99,16 +99,16 @@ module _ {h below sums : List ℕ} {v number added : ℕ} (so_far : Filling h v 
 
   -- with counts of 32 bits at 2,048 levels, what is stored fits 64 bits
   module _ (counts : AtMost 4294967295 h) (levels : length h ≤ 2048) (turn : v < length h) where
-    pub number-room : number + count_of h v ≤ 8796093020160
-    number-room = omega (arith, so_far.number_is, sum_most 4294967295 v (count_of h) counts, counts v)
+    pub number_room : number + count_of h v ≤ 8796093020160
+    number_room = omega (arith, so_far.number_is, sum_most 4294967295 v (count_of h) counts, counts v)
 
-    pub level-sum-room : level_sum h v ≤ 8796093020160
-    level-sum-room = omega (arith, mul-le-mul {n₁ = v} {n₂ = 2048} (omega arith) (counts v))
+    pub level_sum_room : level_sum h v ≤ 8796093020160
+    level_sum_room = omega (arith, mul-le-mul {n₁ = v} {n₂ = 2048} (omega arith) (counts v))
 
-    pub added-room : added + level_sum h v ≤ 18014398505287680
-    added-room =
+    pub added_room : added + level_sum h v ≤ 18014398505287680
+    added_room =
         let most : sum v (count_of h) ≤ 8796093020160 = omega (arith, sum_most 4294967295 v (count_of h) counts) in
-        omega (arith, so_far.added_is, sum_of_levels v (count_of h), mul-le-mul {n₁ = v} {n₂ = 2047} (omega arith) most, level-sum-room)
+        omega (arith, so_far.added_is, sum_of_levels v (count_of h), mul-le-mul {n₁ = v} {n₂ = 2047} (omega arith) most, level_sum_room)
 
 -- ---- reading
 -- a test that picks the levels below k

@@ -10,7 +10,7 @@ use Rattle.picture.proofs.Shapes.{WellShaped, passes_both, well_shaped, misshape
 use Rattle.sample.specs.declared.Coordinate.{Coordinate}
 use Rattle.sample.specs.Cubic.{sampled, refused}
 use Rattle.sample.specs.Asked.{Surrounded, Around}
-use Rattle.sample.proofs.Coordinates.{outside, is-inside}
+use Rattle.sample.proofs.Coordinates.{outside, is_inside}
 use Rattle.sample.proofs.Outcomes.{is_sample}
 use Rattle.sample.proofs.sample.Statement.{statement}
 use Rattle.sample.proofs.sample.Tie as tie
@@ -105,7 +105,7 @@ returns-4 c =
     let a = (began e).args in
     let at_x = (placed e).before.locate.ensures in
     let at_y = (placed e).locate2.ensures in
-    passes_both (fit (shaped e)) (goes_on (is-inside a.x (column e) at_x a.width (in-column e), is-inside a.y (row e) at_y a.height (in_row e))
+    passes_both (fit (shaped e)) (goes_on (is_inside a.x (column e) at_x a.width (in-column e), is_inside a.y (row e) at_y a.height (in_row e))
     (ap (sampled 0) (is_sample a.levels.now a.x a.y (column e) (row e) at_x at_y (in-column e) (in_row e) (rw (to_z-of_z w64 c.around.result (record { sfits = c.around.type-inv })) c.around.ensures))))
 
 pub sample-spec : {M : Type 1} → statement M

@@ -12,7 +12,7 @@ use Rattle.memory.specs.Memory.{width_of, height_of, came_of, zeros}
 use Rattle.memory.proofs.Memories.{length_rows}
 use Rattle.memory.proofs.Outcomes.{when_starts}
 use Rattle.scan.proofs.SixRows.{count_again}
-use Rattle.scan.proofs.Calls.{end_ready, end-coming, end-done}
+use Rattle.scan.proofs.Calls.{end_ready, end_coming, end_done}
 use Rattle.scan.proofs.end.Goals as goal
 
 -- how many rows are due, and room for them
@@ -27,7 +27,7 @@ take_rows-requires c =
     let room : min 3 (height_of held) * width_of held ≤ length c.args.output.now =
     rw (← due_is (height_of held) c.less.result _ c.less.ensures refl) (omega arith)
     in
-    (end_ready held begun last, end-coming held begun last c.args.output.now room)
+    (end_ready held begun last, end_coming held begun last c.args.output.now room)
 
 pub returns : goal.returns
 returns c =
@@ -42,5 +42,5 @@ returns c =
     let lent_long = same_len_mid 3 6144 held c.take_rows.new.rows c.take_rows.auto.rows in
     let anew = when_starts lent w h _ _ (omega (arith, lent_long, begun.long)) begun.width begun.height c.start.ensures in
     let left = ap (λ (m : List ℕ). set m 2 (h + 3)) anew ∙ count_again w h 0 (h + 3) (zeros 6144) (drop 6147 lent) in
-    end-done held begun last c.args.output.now room c.take_rows.new.rows _ _ _ (c.take_rows.auto.rows ∙ length_rows held begun.long) due left
+    end_done held begun last c.args.output.now room c.take_rows.new.rows _ _ _ (c.take_rows.auto.rows ∙ length_rows held begun.long) due left
     c.take_rows.ensures.output_after

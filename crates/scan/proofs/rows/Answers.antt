@@ -11,7 +11,7 @@ use Rattle.arithmetic.specs.Lists.{AtMost}
 use Rattle.answers.proofs.Refusals.{told_yes}
 use Rattle.memory.specs.Memory.{width_of, height_of, came_of}
 use Rattle.scan.specs.Scan.{due}
-use Rattle.scan.proofs.Calls.{less_of, is_ready, is-coming, rows-done}
+use Rattle.scan.proofs.Calls.{less_of, is_ready, is_coming, rows_done}
 use Rattle.scan.proofs.rows.Goals as goal
 
 pub take_rows-requires : goal.take_rows-requires
@@ -25,7 +25,7 @@ take_rows-requires c =
     let within : length levels / width_of held ≤ height_of held - came_of held = omega (arith, c.less.ensures) in
     let due_is = less_of c.less-2.ensures c.less-3.ensures in
     let room : due (came_of held) (length levels / width_of held) * width_of held ≤ length c.args.output.now = rw (← due_is) (omega arith) in
-    (is_ready held begun few, is-coming held begun levels c.args.output.now bytes few whole within room)
+    (is_ready held begun few, is_coming held begun levels c.args.output.now bytes few whole within room)
 
 pub returns : goal.returns
 returns c =
@@ -38,5 +38,5 @@ returns c =
     let within : length levels / width_of held ≤ height_of held - came_of held = omega (arith, c.less.ensures) in
     let due_is = less_of c.less-2.ensures c.less-3.ensures in
     let room : due (came_of held) (length levels / width_of held) * width_of held ≤ length c.args.output.now = rw (← due_is) (omega arith) in
-    rows-done held begun levels c.args.output.now bytes few whole within c.take_rows.new.rows _ _ room due_is c.take_rows.ensures.rows_after
+    rows_done held begun levels c.args.output.now bytes few whole within c.take_rows.new.rows _ _ room due_is c.take_rows.ensures.rows_after
     c.take_rows.ensures.output_after

@@ -1,7 +1,7 @@
 use Rattle.std.specs.Prelude.{ℕ, ◌≡◌, ◌*◌}
 use Rattle.judge.proofs.Ratios.{Sides}
 use native.Mathlib.Omega.{arith}
-use Rattle.judge.proofs.Ratios.{answered_yes, answered_no, product, product_most, end_most, left_most, quotient-least, starts, found, none_found}
+use Rattle.judge.proofs.Ratios.{answered_yes, answered_no, product, product_most, end_most, left_most, quotient_least, starts, found, none_found}
 use Rattle.judge.proofs.ratio.ratio.Goals as goal
 
 -- the two sides that are compared, of which each is a number in digits and its product
@@ -17,7 +17,7 @@ returns-then-not-reaches c =
 pub overflow_sub-hi : goal.overflow_sub-hi
 overflow_sub-hi c =
     let sides = sides_are c.args.count c.args.span c.args.spread _ _ _ _ c.of.ensures c.times-left.ensures c.of-2.ensures c.times-right.ensures in
-    omega (arith, quotient-least sides c.power_below_root-p.ensures (answered_yes _ _ c.reaches.ensures c.if-not-reaches.false))
+    omega (arith, quotient_least sides c.power_below_root-p.ensures (answered_yes _ _ c.reaches.ensures c.if-not-reaches.false))
 
 pub halve-requires : goal.halve-requires
 halve-requires c =

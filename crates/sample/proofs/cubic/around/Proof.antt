@@ -10,7 +10,7 @@ use mir.ValLaws.{to_z-of_z}
 use Rattle.arithmetic.specs.Lists.{AtMost}
 use Rattle.arithmetic.specs.Sums.{sumℤ}
 use Rattle.arithmetic.proofs.SignedSums.{sumℤ_none, sumℤ_more}
-use Rattle.arithmetic.proofs.Casts.{product_fits, sum_fits, sum-gives}
+use Rattle.arithmetic.proofs.Casts.{product_fits, sum_fits, sum_gives}
 use Rattle.sample.specs.declared.Coordinate.{Coordinate}
 use Rattle.sample.specs.Cubic.{weight}
 use Rattle.sample.specs.Asked.{row_sum, row_start, row_term}
@@ -127,7 +127,7 @@ loop-less c = omega arith
 loop-again : tie.Need-loop-preserved invariant-loop decreases-loop
 loop-again c =
     let t = turn c in
-    let next = sum-gives w64 (is-weight c) (is_row c) (room c) (looped t).loop.inv.2 (more c) in
+    let next = sum_gives w64 (is-weight c) (is_row c) (room c) (looped t).loop.inv.2 (more c) in
     (omega arith, next_start (width t) (column t).pixel (row t).pixel (r t) (looped t).loop.inv.1, next ∙ sym (sumℤ_more (r t) (terms c)))
 
 returns : tie.Need-returns invariant-loop decreases-loop

@@ -11,10 +11,10 @@ use mir.ValLaws.{to_z-of_z, to_z_pos}
 use Rattle.arithmetic.specs.Lists.{AtMost}
 use Rattle.arithmetic.specs.Sums.{sumℤ}
 use Rattle.arithmetic.proofs.SignedSums.{sumℤ_none, sumℤ_more}
-use Rattle.arithmetic.proofs.Casts.{product_fits, sum_fits, sum-gives}
+use Rattle.arithmetic.proofs.Casts.{product_fits, sum_fits, sum_gives}
 use Rattle.sample.specs.Cubic.{weight}
 use Rattle.sample.specs.Asked.{column_term}
-use Rattle.sample.proofs.Reach.{column_fits, columns-fit}
+use Rattle.sample.proofs.Reach.{column_fits, columns_fit}
 use Rattle.sample.proofs.Rows.{row_done}
 use Rattle.sample.proofs.cubic.row_sum.Statement.{statement}
 use Rattle.sample.proofs.cubic.row_sum.Tie as tie
@@ -70,7 +70,7 @@ module _ (c : tie.After-shared-slice-known2 invariant-loop decreases-loop) where
   room = column_fits levels bytes at k began.pre.1 t (omega arith)
 
   more : SFits w64 (sumℤ t (column_term levels at k) +ℤ column_term levels at k t)
-  more = columns-fit levels bytes at k began.pre.1 t (omega arith)
+  more = columns_fit levels bytes at k began.pre.1 t (omega arith)
 
 cast-sum : tie.Need-overflow-cast-sum invariant-loop decreases-loop
 cast-sum c = record { sfits = omega (arith, bytes c (at c + t c)) }
@@ -89,7 +89,7 @@ loop-less c = omega arith
 
 loop-again : tie.Need-loop-preserved invariant-loop decreases-loop
 loop-again c =
-    let next = sum-gives w64 (is-weight c) (is-level c) (room c) (looped c).loop.invariant.1 (more c) in
+    let next = sum_gives w64 (is-weight c) (is-level c) (room c) (looped c).loop.invariant.1 (more c) in
     (omega arith, next ∙ sym (sumℤ_more (t c) (column_term (levels c) (at c) (k c))))
 
 returns : tie.Need-returns invariant-loop decreases-loop

@@ -13,7 +13,7 @@ use Rattle.arithmetic.proofs.Order.{row_end}
 use Rattle.memory.specs.Memory.{row_at}
 use Rattle.scan.specs.Ring.{held_in}
 use Rattle.scan.specs.Asked.{long}
-use Rattle.scan.proofs.Taking.{taken_none, given_grows, given-count, part_long, turn}
+use Rattle.scan.proofs.Taking.{taken_none, given_grows, given_count, part_long, turn}
 use Rattle.scan.proofs.steps.take_rows.Goals as goal
 
 -- what is known of turn i
@@ -30,7 +30,7 @@ known w h k each n rows levels output coming i at done rows' output' widened hal
     let held = held_in w h k rows in
     let f = row_at each levels in
     let then = le_trans (given_grows held f (i + 1) n (omega arith)) coming.room in
-    let more = given-count w h k rows f output i done rows' output' t.taken in
+    let more = given_count w h k rows f output i done rows' output' t.taken in
     record {
       inside = omega (arith, row_end each n i here, coming.levels_are, t.at_is);
       row_there = coming.rows_are i here;

@@ -2,7 +2,7 @@
 use Prim.Native.Nat.{◌-◌, ◌≤◌}
 use native.Mathlib.Omega.{arith}
 use lib.ListN.{length}
-use Rattle.threshold.proofs.Tables.{Filling, filling_none, filling_more, filling_all, number-room, level-sum-room, added-room}
+use Rattle.threshold.proofs.Tables.{Filling, filling_none, filling_more, filling_all, number_room, level_sum_room, added_room}
 use Rattle.threshold.proofs.means.fill.Statement.{statement}
 use Rattle.threshold.proofs.means.fill.Tie as tie
 
@@ -33,17 +33,17 @@ cast-count c = omega (arith, c.shared-slice-known.given c.before.before.loop.v)
 add-number : tie.Need-overflow-add-number invariant-loop decreases-loop
 add-number c =
     let turn = c.before.before in
-    omega (arith, number-room turn.loop.invariant.1 (λ k. omega (arith, c.shared-slice-known.given k)) turn.before.requires.0 c.before.loop-test.true)
+    omega (arith, number_room turn.loop.invariant.1 (λ k. omega (arith, c.shared-slice-known.given k)) turn.before.requires.0 c.before.loop-test.true)
 
 mul-sum : tie.Need-overflow-mul-sum invariant-loop decreases-loop
 mul-sum c =
     let turn = c.before.before in
-    omega (arith, level-sum-room turn.loop.invariant.1 (λ k. omega (arith, c.shared-slice-known.given k)) turn.before.requires.0 c.before.loop-test.true)
+    omega (arith, level_sum_room turn.loop.invariant.1 (λ k. omega (arith, c.shared-slice-known.given k)) turn.before.requires.0 c.before.loop-test.true)
 
 add-sum : tie.Need-overflow-add-sum invariant-loop decreases-loop
 add-sum c =
     let turn = c.before.before in
-    omega (arith, added-room turn.loop.invariant.1 (λ k. omega (arith, c.shared-slice-known.given k)) turn.before.requires.0 c.before.loop-test.true)
+    omega (arith, added_room turn.loop.invariant.1 (λ k. omega (arith, c.shared-slice-known.given k)) turn.before.requires.0 c.before.loop-test.true)
 
 add-v : tie.Need-overflow-add-v invariant-loop decreases-loop
 add-v c = omega arith
