@@ -5,7 +5,7 @@ use mathlib.Core.List.{List, [], ◌∷◌}
 use Prim.Native.Nat.{ℕ}
 use native.Mathlib.Decide.{dec_le, dec_lt, ℕ_discrete}
 use native.Mathlib.Omega.{arith}
-use lib.ListN.{length, replicate, length-replicate}
+use lib.ListN.{replicate, length-replicate}
 use Rattle.arithmetic.proofs.Computed.{EveryRow}
 use Rattle.answers.proofs.Refusals.{stops, goes_on}
 use Rattle.units.specs.Units.{picometres}

@@ -59,7 +59,7 @@ fn round(histogram: &[u32], below: &[u64], sums: &[u64], t: Fraction) -> Fractio
 }
 
 // Rounds from the start until one gives back what it was given. Nothing counts them down: that they
-// end is proved. After the first round equal thresholds are equal pairs (`same-pair`), so no product of
+// end is proved. After the first round equal thresholds are equal pairs (`same_pair`), so no product of
 // two pairs, which might have 90 bits, is needed. The start, v/1, is written over the first round's
 // denominator, so that it too is compared as a pair.
 pub(crate) fn settle(histogram: &[u32], below: &[u64], sums: &[u64], usual: usize) -> Threshold
