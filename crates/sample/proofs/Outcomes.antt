@@ -12,7 +12,7 @@ use Rattle.answers.proofs.Refusals.{alike, together}
 use Rattle.units.specs.declared.Sixteenths.{Sixteenths}
 use Rattle.sample.specs.declared.Sampled.{Sampled}
 use Rattle.sample.specs.declared.Coordinate.{Coordinate}
-use Rattle.sample.specs.Cubic.{sample_of, pixel, remainder, sample_at, refused, SampleIs}
+use Rattle.sample.specs.Cubic.{sample_of, pixel, sample_at, refused, SampleIs}
 use Rattle.sample.specs.Asked.{Surrounded, Located}
 use Rattle.sample.proofs.Coordinates.{inside_surrounded, is_pixel, is_remainder}
 
