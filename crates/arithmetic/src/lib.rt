@@ -1,10 +1,12 @@
-// What several crates compute with: numbers from their bytes (`bytes`), whether values are small (`values`),
-// fractions, and, in specs/ and proofs/, the greatest of a kind and how halving finds it, the least of a kind,
-// signed numbers beside natural ones and how far they go, sums, lists, and tests that are computed. Laws are
-// shared from here; the few functions are total.
+// What several crates compute with: numbers from their bytes (`bytes`), the larger and the smaller of two
+// (`values`, `sizes`) and whether values are small (`values`), fractions, and, in specs/ and proofs/, the
+// greatest of a kind and how halving finds it, the least of a kind, signed numbers beside natural ones and
+// how far they go, sums, lists, and tests that are computed. Laws are shared from here; the few functions
+// are total.
 #![tactic(auto)]
 
 pub mod bytes;
+pub mod sizes;
 pub mod values;
 
 ghost use Rattle.std.specs.Prelude.{◌≡◌};

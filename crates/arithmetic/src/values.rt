@@ -1,10 +1,24 @@
-// Several 16-bit numbers at once.
-ghost use Rattle.std.specs.Prelude.{◌≡◌, true, false, max};
+// 16-bit numbers: two of them, and several at once.
+ghost use Rattle.std.specs.Prelude.{◌≡◌, true, false, max, min};
 ghost use Rattle.arithmetic.specs.Greatest.{Least};
 ghost use Rattle.arithmetic.specs.Lists.{AtMost};
 ghost use Rattle.answers.specs.Refusals.{Unless};
 
-// Whether each of them is at most `most`. All are looked at, also past one that is not: so the loop
+// The larger of two.
+pub fn larger(a: u16, b: u16) -> u16
+    ensures { result ≡ max a b }
+{
+    if a < b { b } else { a }
+}
+
+// The smaller of two.
+pub fn smaller(a: u16, b: u16) -> u16
+    ensures { result ≡ min a b }
+{
+    if a < b { a } else { b }
+}
+
+// Whether each of some values is at most `most`. All are looked at, also past one that is not: so the loop
 // takes several at once.
 pub fn at_most(values: &[u16], most: u16) -> bool
     ensures { Unless (AtMost most values.now) (result ≡ false) (result ≡ true) }
@@ -23,10 +37,4 @@ fn greatest(values: &[u16]) -> u16
         i += 1;
     }
     most
-}
-
-fn larger(a: u16, b: u16) -> u16
-    ensures { result ≡ max a b }
-{
-    if a < b { b } else { a }
 }
