@@ -1,5 +1,4 @@
 -- each test is one number's condition, and past them all the rows are what the loop asks for.
---
 use Prim.Native.Nat.{◌%◌}
 use mathlib.Core.Bool.{not}
 use mathlib.Core.Path.{ap}

@@ -1,5 +1,4 @@
 -- at place k each middle level is found, or it stands at k or later (`Middles`).
---
 use Rattle.std.proofs.Common.{take}
 use mathlib.Core.Path.{refl}
 use native.Mathlib.Omega.{arith}

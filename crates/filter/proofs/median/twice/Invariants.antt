@@ -1,5 +1,4 @@
 -- at place k each middle level is found, or it stands at k or later (`Middles`).
---
 use Prim.Native.Nat.{◌-◌, ◌≤◌}
 use Rattle.filter.proofs.Search.{Middles}
 use Rattle.filter.proofs.median.twice.Given as goal

@@ -1,5 +1,4 @@
 -- the values still to come, with those so far, have the row's extremes.
---
 use Prim.Native.Nat.{◌-◌, ◌≤◌, min, max}
 use mathlib.Core.Path.{◌≡◌}
 use mathlib.Core.List.{foldl}

@@ -1,5 +1,4 @@
 -- each turn doubles the power and divides what is left of d by 4.
---
 use Rattle.judge.proofs.Ratios.{quartered_more}
 use Rattle.judge.proofs.ratio.power_below_root.Goals as goal
 

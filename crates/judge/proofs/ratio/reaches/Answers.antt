@@ -1,5 +1,4 @@
 -- the left side is multiplied by q + 138 twice, for which there is room.
---
 use Rattle.judge.proofs.Ratios.{twice_is_square}
 use Rattle.judge.proofs.ratio.reaches.Goals as goal
 

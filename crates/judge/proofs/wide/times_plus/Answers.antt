@@ -1,5 +1,4 @@
 -- each turn multiplies one digit more, and past the last nothing is carried.
---
 use mathlib.Core.Path.{refl}
 use native.Mathlib.Omega.{arith}
 use Rattle.judge.proofs.Digits.{multiplied_none, multiplied_more}

@@ -1,5 +1,4 @@
 -- each turn multiplies one digit more, and past the last nothing is carried.
---
 use Prim.Native.Nat.{◌-◌, ◌≤◌}
 use Rattle.judge.proofs.Digits.{Multiplied}
 use Rattle.judge.proofs.wide.times_plus.Given as goal

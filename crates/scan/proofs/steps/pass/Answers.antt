@@ -1,5 +1,4 @@
 -- a row of the next pass is completed from the two, and then one of them is replaced.
---
 use Rattle.scan.proofs.Twos.{is_replaced}
 use Rattle.scan.proofs.steps.pass.Goals as goal
 

@@ -1,6 +1,5 @@
 -- what a pass completes goes to the next one, and each replaces one of its two rows.
---
-use Rattle.std.specs.Prelude.{ℕ, List, ◌≡◌, ◌<◌, get_or}
+use Rattle.std.specs.Prelude.{ℕ, List, ◌≡◌, ◌<◌, ◌≤◌, get_or}
 use mathlib.Core.Path.{refl, sym}
 use Rattle.scan.specs.Asked.{Ready, long}
 use Rattle.scan.proofs.Passing.{Arriving, front_is}
@@ -12,7 +11,8 @@ use lib.Seq.{length-take-le}
 use Rattle.scan.proofs.Shown.{long_most}
 use Rattle.scan.proofs.steps.take_row.Goals as goal
 
-arriving_is : (w h k : ℕ) (rows levels : List ℕ) → Ready w h k rows → length levels ≡ long w h k 0 → ((i : ℕ) → get_or levels i 0 < 256) → Arriving w h k rows levels
+arriving_is : (w h k : ℕ) (rows levels : List ℕ) → Ready w h k rows → length levels ≡ long w h k 0 → ((i : ℕ) → get_or levels i 0 < 256)
+    → Arriving w h k rows levels
 arriving_is w h k rows levels ready long_as bytes = record { ready = ready; long_as = long_as; bytes = λ i. omega (arith, bytes i) }
 
 pub widen-requires : goal.widen-requires
@@ -21,7 +21,10 @@ widen-requires c =
 
 pub pass-requires : goal.pass-requires
 pass-requires c =
-    let arriving = arriving_is c.args.width c.args.height c.args.k c.args.rows.now c.args.levels.now c.requires.ready.0 c.requires.ready.1 (λ i. omega (arith, c.type_inv.levels i)) in
+    let arriving =
+    arriving_is c.args.width c.args.height c.args.k c.args.rows.now c.args.levels.now c.requires.ready.0 c.requires.ready.1
+    (λ i. omega (arith, c.type_inv.levels i))
+    in
     let widened = front_is (length c.args.levels.now) c.widen.new.out c.args.levels.now _ c.widen.ensures refl in
     (first_asks arriving _ widened, le_trans (long_most c.args.height c.args.k 1 c.args.width) c.requires.width_in_bounds.1)
 
@@ -31,13 +34,21 @@ slice_bounds-pass-end-6 c =
 
 pub slice_bounds-pass-end-7 : goal.slice_bounds-pass-end-7
 slice_bounds-pass-end-7 c =
-    sym (length-take-le _ _ (omega (arith, c.pass.auto.out, c.long-n1.ensures, long_most c.args.height c.args.k 1 c.args.width, c.requires.width_in_bounds.1)))
+    let room : c.long-n1.result ≤ length c.pass.new.out =
+    omega (arith, c.pass.auto.out, c.long-n1.ensures, long_most c.args.height c.args.k 1 c.args.width, c.requires.width_in_bounds.1)
+    in
+    sym (length-take-le _ _ room)
 
 pub pass-requires-2 : goal.pass-requires-2
 pass-requires-2 c =
-    let arriving = arriving_is c.args.width c.args.height c.args.k c.args.rows.now c.args.levels.now c.requires.ready.0 c.requires.ready.1 (λ i. omega (arith, c.type_inv.levels i)) in
+    let arriving =
+    arriving_is c.args.width c.args.height c.args.k c.args.rows.now c.args.levels.now c.requires.ready.0 c.requires.ready.1
+    (λ i. omega (arith, c.type_inv.levels i))
+    in
     let widened = front_is (length c.args.levels.now) c.widen.new.out c.args.levels.now _ c.widen.ensures refl in
-    let one : One arriving _ c.pass.new.two c.pass.new.out c.args.halves.now = record { part_is = widened; left = c.pass.ensures.two_after; gave = c.pass.ensures.out_after } in
+    let one : One arriving _ c.pass.new.two c.pass.new.out c.args.halves.now =
+    record { part_is = widened; left = c.pass.ensures.two_after; gave = c.pass.ensures.out_after }
+    in
     (second_asks arriving one _ c.long-n1.ensures, le_trans (long_most c.args.height c.args.k 2 c.args.width) c.requires.width_in_bounds.2)
 
 pub slice_bounds-pass-end-9 : goal.slice_bounds-pass-end-9
@@ -46,13 +57,21 @@ slice_bounds-pass-end-9 c =
 
 pub slice_bounds-pass-end-10 : goal.slice_bounds-pass-end-10
 slice_bounds-pass-end-10 c =
-    sym (length-take-le _ _ (omega (arith, c.pass-2.auto.out, c.long-n2.ensures, long_most c.args.height c.args.k 2 c.args.width, c.requires.width_in_bounds.2)))
+    let room : c.long-n2.result ≤ length c.pass-2.new.out =
+    omega (arith, c.pass-2.auto.out, c.long-n2.ensures, long_most c.args.height c.args.k 2 c.args.width, c.requires.width_in_bounds.2)
+    in
+    sym (length-take-le _ _ room)
 
 pub pass-requires-3 : goal.pass-requires-3
 pass-requires-3 c =
-    let arriving = arriving_is c.args.width c.args.height c.args.k c.args.rows.now c.args.levels.now c.requires.ready.0 c.requires.ready.1 (λ i. omega (arith, c.type_inv.levels i)) in
+    let arriving =
+    arriving_is c.args.width c.args.height c.args.k c.args.rows.now c.args.levels.now c.requires.ready.0 c.requires.ready.1
+    (λ i. omega (arith, c.type_inv.levels i))
+    in
     let widened = front_is (length c.args.levels.now) c.widen.new.out c.args.levels.now _ c.widen.ensures refl in
-    let one : One arriving _ c.pass.new.two c.pass.new.out c.args.halves.now = record { part_is = widened; left = c.pass.ensures.two_after; gave = c.pass.ensures.out_after } in
+    let one : One arriving _ c.pass.new.two c.pass.new.out c.args.halves.now =
+    record { part_is = widened; left = c.pass.ensures.two_after; gave = c.pass.ensures.out_after }
+    in
     let two : Two arriving one c.long-n1.result c.pass-2.new.two c.pass-2.new.out c.args.quarters.now =
     record { n_is = c.long-n1.ensures; left = c.pass-2.ensures.two_after; gave = c.pass-2.ensures.out_after }
     in
@@ -60,9 +79,14 @@ pass-requires-3 c =
 
 pub returns-clause-rows_after : goal.returns-clause-rows_after
 returns-clause-rows_after c =
-    let arriving = arriving_is c.args.width c.args.height c.args.k c.args.rows.now c.args.levels.now c.requires.ready.0 c.requires.ready.1 (λ i. omega (arith, c.type_inv.levels i)) in
+    let arriving =
+    arriving_is c.args.width c.args.height c.args.k c.args.rows.now c.args.levels.now c.requires.ready.0 c.requires.ready.1
+    (λ i. omega (arith, c.type_inv.levels i))
+    in
     let widened = front_is (length c.args.levels.now) c.widen.new.out c.args.levels.now _ c.widen.ensures refl in
-    let one : One arriving _ c.pass.new.two c.pass.new.out c.args.halves.now = record { part_is = widened; left = c.pass.ensures.two_after; gave = c.pass.ensures.out_after } in
+    let one : One arriving _ c.pass.new.two c.pass.new.out c.args.halves.now =
+    record { part_is = widened; left = c.pass.ensures.two_after; gave = c.pass.ensures.out_after }
+    in
     let two : Two arriving one c.long-n1.result c.pass-2.new.two c.pass-2.new.out c.args.quarters.now =
     record { n_is = c.long-n1.ensures; left = c.pass-2.ensures.two_after; gave = c.pass-2.ensures.out_after }
     in
@@ -70,9 +94,14 @@ returns-clause-rows_after c =
 
 pub returns-clause-out_after : goal.returns-clause-out_after
 returns-clause-out_after c =
-    let arriving = arriving_is c.args.width c.args.height c.args.k c.args.rows.now c.args.levels.now c.requires.ready.0 c.requires.ready.1 (λ i. omega (arith, c.type_inv.levels i)) in
+    let arriving =
+    arriving_is c.args.width c.args.height c.args.k c.args.rows.now c.args.levels.now c.requires.ready.0 c.requires.ready.1
+    (λ i. omega (arith, c.type_inv.levels i))
+    in
     let widened = front_is (length c.args.levels.now) c.widen.new.out c.args.levels.now _ c.widen.ensures refl in
-    let one : One arriving _ c.pass.new.two c.pass.new.out c.args.halves.now = record { part_is = widened; left = c.pass.ensures.two_after; gave = c.pass.ensures.out_after } in
+    let one : One arriving _ c.pass.new.two c.pass.new.out c.args.halves.now =
+    record { part_is = widened; left = c.pass.ensures.two_after; gave = c.pass.ensures.out_after }
+    in
     let two : Two arriving one c.long-n1.result c.pass-2.new.two c.pass-2.new.out c.args.quarters.now =
     record { n_is = c.long-n1.ensures; left = c.pass-2.ensures.two_after; gave = c.pass-2.ensures.out_after }
     in

@@ -54,7 +54,10 @@ pub take_row-requires-clause-ready : goal.take_row-requires-clause-ready
 take_row-requires-clause-ready c =
     let l = c.loop-i in
     let t = l.invariant in
-    let is = known c.args.width c.args.height c.args.k c.args.each c.args.n c.args.rows.now c.args.levels.now c.args.output.now c.requires.1 l.i l.at l.done _ _ _ _ _ t c.loop-i-test.true in
+    let is =
+    known c.args.width c.args.height c.args.k c.args.each c.args.n c.args.rows.now c.args.levels.now c.args.output.now
+    c.requires.1 l.i l.at l.done _ _ _ _ _ t c.loop-i-test.true
+    in
     let room : long c.args.width c.args.height (c.args.k + l.i) 3 ≤ length (take (length l.output - l.done) (drop l.done l.output)) =
     simp (length-take, length-drop) (omega (arith, is.room, t.output_long))
     in
@@ -63,7 +66,10 @@ take_row-requires-clause-ready c =
 pub overflow_add-done : goal.overflow_add-done
 overflow_add-done c =
     let l = c.loop-i in
-    let is = known c.args.width c.args.height c.args.k c.args.each c.args.n c.args.rows.now c.args.levels.now c.args.output.now c.requires.1 l.i l.at l.done _ _ _ _ _ l.invariant c.loop-i-test.true in
+    let is =
+    known c.args.width c.args.height c.args.k c.args.each c.args.n c.args.rows.now c.args.levels.now c.args.output.now
+    c.requires.1 l.i l.at l.done _ _ _ _ _ l.invariant c.loop-i-test.true
+    in
     omega (arith, is.room, c.long-done.ensures)
 
 pub loop-i-preserved : goal.loop-i-preserved
@@ -71,7 +77,10 @@ loop-i-preserved c =
     let l = c.loop-i in
     let t = l.invariant in
     let row = c.take_row in
-    let is = known c.args.width c.args.height c.args.k c.args.each c.args.n c.args.rows.now c.args.levels.now c.args.output.now c.requires.1 l.i l.at l.done _ _ _ _ _ t c.loop-i-test.true in
+    let is =
+    known c.args.width c.args.height c.args.k c.args.each c.args.n c.args.rows.now c.args.levels.now c.args.output.now
+    c.requires.1 l.i l.at l.done _ _ _ _ _ t c.loop-i-test.true
+    in
     let bytes : AtMost 255 c.args.levels.now = λ k. omega (arith, c.type_inv.levels k) in
     record {
       within = omega arith;
