@@ -1,9 +1,9 @@
 -- Laws of numbers as text: what io spells, one digit, how many digits there are; and that a number has one text. Assumes nothing.
-use Rattle.std.proofs.Common.{◌≡◌, ℕ, suc, ◌+◌, ◌-◌, ◌%◌, ◌^◌, ◌<◌, ◌≤◌, List, [], ◌∷◌, ◌++◌, length, take, ℤ, pos, negsuc, sym, refl, ap, ◌∙◌, ⊎_elim, le_trans, le_refl, not-le_of_lt, arith, lit<, lit≤, lt-ltb}
+use Rattle.std.proofs.Common.{◌≡◌, ℕ, suc, ◌+◌, ◌-◌, ◌%◌, ◌^◌, ◌<◌, ◌≤◌, List, [], ◌∷◌, length, take, ℤ, pos, negsuc, sym, refl, ap, ◌∙◌, le_trans, le_refl, not-le_of_lt, arith, lit<, lit≤, lt-ltb}
 use native.Mathlib.Nat.{pow-le-pow_right}
 use native.Mathlib.Decide.{dec_lt}
 use Rattle.io.specs.Counts.{IsPrefixLen}
-use Rattle.io.specs.Digits.{last_digits, IsDigitCount, hex_digit_ascii}
+use Rattle.io.specs.Digits.{last_digits, IsDigitCount}
 use Rattle.text.specs.Text.{Spelled, SpelledSigned}
 
 -- what io has spelled at the start of a list
