@@ -2,15 +2,19 @@
 use mathlib.Core.Bool.{true, false, true≢false}
 use mathlib.Core.Path.{◌≡◌, refl, sym, ap, subst, ◌∙◌}
 use mathlib.Core.List.{List, ◌++◌}
-use Prim.Native.Nat.{ℕ, ◌+◌, ◌≤◌}
+use Prim.Native.Nat.{ℕ, ◌+◌, ◌≤◌, ◌<◌}
 use native.Mathlib.Omega.{arith}
+use lib.IntN.{ℤ, pos, negsuc}
 use lib.ListN.{length, take}
+use lib.Signed.{lt_z}
+use borrow.Author.Tests.{ltb-true}
 use borrow.Rule.Slice.PartMut.{put_mid, post_of}
-use Rattle.std.specs.Prelude.{Option, Ok, Err, min}
+use Rattle.std.specs.Prelude.{Option}
 use Rattle.std.specs.Io.KnownBytes.{Consumes}
 use Rattle.std.proofs.lemmas.List.{length-take-le, take-append-le}
 use Rattle.std.proofs.Math.Seq.{take-append-add}
 use Rattle.std.proofs.KnownBytes.{Consumes-trans}
+use Rattle.io.specs.Counts.{clamp_len}
 use Rattle.io.proofs.Counting.{prefix_len_of_le}
 use Rattle.streams.specs.declared.Got.{Got}
 use Rattle.streams.specs.Streams.{Received, Told}
@@ -25,14 +29,17 @@ nothing_came part space r is failed =
     let zero = is.none failed in
     record { counts = prefix_len_of_le r.count space (omega arith); none = λ f. zero }
 
--- what a read's answer says: that it failed
-pub told_failed : {E : Type 0} (why : E) (space : List ℕ) → Told (Err why) space (record { failed = true; count = 0 })
-told_failed why space =
+-- what a read's answer says: a negative one
+pub told_failed : (answer : ℤ) (space : List ℕ) → lt_z answer (pos 0) ≡ true → Told answer space (record { failed = true; count = 0 })
+told_failed (pos n) space negative = let no : n < 0 = ltb-true n 0 negative in absurd (let z : ⊥ = omega arith in z)
+told_failed (negsuc n) space negative =
     record { received = record { counts = prefix_len_of_le 0 space (omega arith); none = λ failed. refl }; failed_is = refl; count_is = refl }
 
--- and how many bytes it brought
-pub told_count : {E : Type 0} (n : ℕ) (space : List ℕ) → Told {E = E} (Ok n) space (record { failed = false; count = min n (length space) })
-told_count n space = record { received = came space (min n (length space)) (omega arith); failed_is = refl; count_is = refl }
+-- and one that is not
+pub told_count : (answer : ℤ) (space : List ℕ) (n : ℕ) → lt_z answer (pos 0) ≡ false → n ≤ length space → n ≡ clamp_len answer (length space)
+    → Told answer space (record { failed = false; count = n })
+told_count answer space n not_negative inside is =
+    record { received = came space n inside; failed_is = sym not_negative; count_is = is }
 
 -- the front of a space, and the first bytes of what was put behind it
 front_and_more : (xs ys rest : List ℕ) (at n : ℕ) → at ≤ length xs → n ≤ length ys

@@ -7,7 +7,6 @@ ghost use Rattle.std.specs.Io.KnownBytes.{Consumes, IsAtEnd};
 ghost use Rattle.streams.specs.Streams.{Received, NextBytes, Told};
 
 use std::fmt::InlineText;
-use std::io;
 use std::io::Read;
 
 // What came: how many bytes, at the start of the space; none where a read failed.
@@ -49,31 +48,33 @@ fn some<R: Read, E: Eprint>(input: &mut R, errors: &E, space: &mut [u8]) -> Got
     ensures next { result.failed ≡ false → Consumes (R.remaining input.old) (R.remaining input.new) (take result.count space.new) }
     ensures end { result.failed ≡ false → result.count ≡ 0 → 0 < length space.new → IsAtEnd (R.remaining input.new) }
 {
-    let answer = input.read(space);
-    if let Err(why) = answer {
-        fail(errors, "standard input", why);
+    match input.read(space) {
+        Ok(count) => told(count as isize, space),
+        Err(why) => {
+            fail(errors, "standard input", why);
+            told(-1, space)
+        }
     }
-    told(answer, space)
 }
 
-// What the answer of a read says: that it failed, or how many bytes it brought.
-fn told(answer: io::Result<usize>, space: &[u8]) -> Got
+// What the answer of a read says: a negative one that it failed, any other how many bytes it brought.
+fn told(answer: isize, space: &[u8]) -> Got
     ensures { Told answer space.now result }
 {
-    match answer {
-        Ok(count) => Got {
-            failed: false,
-            count: count.min(space.len()),
-        },
-        Err(_) => Got {
+    if answer < 0 {
+        return Got {
             failed: true,
             count: 0,
-        },
+        };
+    }
+    Got {
+        failed: false,
+        count: io::count(answer, space),
     }
 }
 
 // Whether a write was good. Where not, that has been said in one line on standard error.
-pub fn sent<E: Eprint>(errors: &E, answer: io::Result<()>) -> bool
+pub fn sent<E: Eprint>(errors: &E, answer: std::io::Result<()>) -> bool
     ensures { result ≡ is_ok answer }
 {
     match answer {
@@ -86,7 +87,7 @@ pub fn sent<E: Eprint>(errors: &E, answer: io::Result<()>) -> bool
 }
 
 // A line on standard error: what failed, and why in the system's words.
-fn fail<E: Eprint>(errors: &E, what: &str, why: io::Error) {
+fn fail<E: Eprint>(errors: &E, what: &str, why: std::io::Error) {
     let all = InlineText::<256>::of(why);
     let words = words(all.as_str());
     // where standard error fails too, nothing is left to say it on
