@@ -1,7 +1,7 @@
 -- "Only the rows still needed may be held, never the picture": two memories with the same sides, as many rows come and the same six rows
 -- answer all later calls alike. So nothing else of the picture can be told from a memory. Assumes nothing.
 use mathlib.Core.Path.{◌≡◌, refl, sym, ap, ◌∙◌, subst}
-use mathlib.Core.List.{List, [], ◌∷◌, ◌++◌, map}
+use mathlib.Core.List.{List, [], ◌∷◌, map}
 use mathlib.Core.Logic.{inl, inr}
 use Prim.Native.Nat.{ℕ, ◌+◌, ◌-◌, ◌*◌, ◌/◌, ◌%◌, ◌≤◌, min}
 use native.Mathlib.Decide.{ℕ_discrete}

@@ -2,4 +2,3 @@
 // whoever makes them. There is nothing to run here; specs/Calls.antt has what is said, proofs/Grouping.antt
 // and proofs/Alike.antt the theorems. They cite what the crate scan promises, and no code.
 #![tactic(auto)]
-
