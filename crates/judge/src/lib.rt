@@ -20,7 +20,7 @@ mod wide;
 
 // What comes back: the table's number, and the ratio in hundredths, rounded down; 0 where neither 0
 // nor 9 comes back.
-#[derive(Drop)]
+#[derive(Clone, Copy)]
 pub struct Verdict {
     pub number: u8,
     pub ratio: u64,

@@ -9,7 +9,7 @@ use answers::table;
 use units::{Picometres, Sixteenths};
 
 // What comes back: the table's number, and the length, 0 where the call was refused.
-#[derive(Drop)]
+#[derive(Clone, Copy)]
 pub struct Sharpness {
     pub number: u8,
     pub length: Picometres,

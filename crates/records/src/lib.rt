@@ -13,7 +13,7 @@ use units::Picometres;
 
 // What begins at an offset of the input. A body lies from `start` up to, not at, `end`, where the next
 // record begins.
-#[derive(Drop)]
+#[derive(Clone, Copy)]
 pub enum Record {
     // A picture of `side` rows of `side` levels; the body is its levels.
     Picture {

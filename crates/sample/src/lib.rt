@@ -14,7 +14,7 @@ mod cubic;
 
 // What comes back: the table's number, and the sample in 1/67,108,864 levels, 0 where the call was
 // refused.
-#[derive(Drop)]
+#[derive(Clone, Copy)]
 pub struct Sampled {
     pub number: u8,
     pub value: i64,

@@ -11,7 +11,7 @@ use answers::table;
 mod steps;
 
 // What a call that gives rows out answers: the number, and how many rows.
-#[derive(Drop)]
+#[derive(Clone, Copy)]
 pub struct Given {
     pub number: u8,
     pub rows: usize,

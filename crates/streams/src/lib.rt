@@ -10,7 +10,7 @@ use std::fmt::InlineText;
 use std::io::Read;
 
 // What came: how many bytes, at the start of the space; none where a read failed.
-#[derive(Drop)]
+#[derive(Clone, Copy)]
 pub struct Got {
     pub failed: bool,
     pub count: usize,

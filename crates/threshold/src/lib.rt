@@ -16,7 +16,7 @@ mod means;
 
 // What comes back: the table's number, the rounds until the threshold rests, and that threshold;
 // zeros where the number is not 0.
-#[derive(Drop)]
+#[derive(Clone, Copy)]
 pub struct Threshold {
     pub number: u8,
     pub rounds: u64,

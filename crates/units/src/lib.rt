@@ -8,15 +8,15 @@ ghost use Rattle.units.specs.Units.{sixteenths, picometres, eighths};
 
 // A place or a distance in the picture, in sixteenths of a pixel. Left of the picture, or above it,
 // a place is negative.
-#[derive(Drop)]
+#[derive(Clone, Copy)]
 pub struct Sixteenths(i64);
 
 // A length on the specimen, in picometres.
-#[derive(Drop)]
+#[derive(Clone, Copy)]
 pub struct Picometres(u64);
 
 // A level, or a sum of levels, in eighths of a level.
-#[derive(Drop)]
+#[derive(Clone, Copy)]
 pub struct Eighths(u64);
 
 impl Sixteenths {
