@@ -74,7 +74,7 @@ def declared(path):
             depth += 1
             continue
         m = DECLARED.match(rest)
-        if m and not rest.startswith((" ", "use ", "pub use ", "where", ")", "|")) and m.group(1) not in ("module", "mod"):
+        if m and not rest.startswith((" ", "use ", "pub use ", ")", "|")) and m.group(1) not in ("module", "mod", "where"):
             found.add(m.group(1))
     return found
 
