@@ -1,12 +1,10 @@
 #!/usr/bin/env python3
-"""How to run a program of target/bin: as `rt` does, under the kit's loader and C library, and in the kit's
-emulator where the machine is not x86-64. Called by itself it becomes that program, `calls` if none is named:
+"""How to run a program of the first, ours: crates/NAME/out/NAME, which `rt` builds once it is proved. Called by itself it
+becomes that program, `calls` if none is named:
 
     printf ... | second/first.py [NAME]
 """
 import os
-import platform
-import shutil
 import subprocess
 import sys
 import threading
@@ -22,27 +20,12 @@ class Difference(Exception):
     """What the two programs do not agree on."""
 
 
-def toolchain():
-    """The kit's folder of tools for this machine."""
-    if not shutil.which('rt'):
-        raise SystemExit('second: rt, the command of the Rattle kit, is not on the PATH')
-    guide = subprocess.run(['rt', 'doc'], capture_output=True, text=True, check=True).stdout.strip()
-    return Path(guide).parent.parent / 'on' / platform.machine() / 'toolchain'
-
-
-def emulator():
-    """The words that run x86-64 code here: none where the machine is one."""
-    there = toolchain() / 'bin' / 'qemu-x86_64'
-    return [str(there)] if there.exists() else []
-
-
 def command(name):
-    """The words that run a program of target/bin."""
-    path = TOP / 'target' / 'bin' / name
+    """The words that run a program."""
+    path = TOP / 'crates' / name / 'out' / name
     if not path.exists():
-        raise SystemExit(f'second: there is no {path.relative_to(TOP)}; `rt check {name}` makes it')
-    library = toolchain() / 'lib'
-    return emulator() + [str(library / 'ld-linux-x86-64.so.2'), '--library-path', str(library), str(path)]
+        raise SystemExit(f'second: there is no {path.relative_to(TOP)}: `rt run` in crates/{name}, or .ci/build, makes it')
+    return [str(path)]
 
 
 def door():
@@ -52,7 +35,7 @@ def door():
     if not DOOR.exists():
         raise Difference(f'there is no {DOOR.relative_to(TOP)}, the C door: .ci/c-door makes it, with a C compiler '
                          '(GONG_WITHOUT_C=1 leaves it out)')
-    return emulator() + [str(DOOR)]
+    return [str(DOOR)]
 
 
 def feed(child, data, slowly):

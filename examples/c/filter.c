@@ -1,7 +1,7 @@
 /* The median, three times, called from C. From the top of the repository:
  *
- *     rt staticlib gong
- *     cc -Iinclude examples/c/filter.c target/staticlib/libgong.a -o filter
+ *     (cd crates/gong && rt lib)
+ *     cc -Iinclude examples/c/filter.c crates/gong/out/libgong.a -o filter
  *     ./filter
  */
 #include <stdio.h>

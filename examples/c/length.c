@@ -1,7 +1,7 @@
 /* The length of a sharpness, called from C. From the top of the repository:
  *
- *     rt staticlib gong
- *     cc -Iinclude examples/c/length.c target/staticlib/libgong.a -o length
+ *     (cd crates/gong && rt lib)
+ *     cc -Iinclude examples/c/length.c crates/gong/out/libgong.a -o length
  *     ./length
  */
 #include <inttypes.h>

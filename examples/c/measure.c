@@ -1,7 +1,7 @@
 /* Measuring a picture, and the judge alone, called from C. From the top of the repository:
  *
- *     rt staticlib gong
- *     cc -Iinclude examples/c/measure.c target/staticlib/libgong.a -o measure
+ *     (cd crates/gong && rt lib)
+ *     cc -Iinclude examples/c/measure.c crates/gong/out/libgong.a -o measure
  *     ./measure
  */
 #include <inttypes.h>

@@ -1,7 +1,7 @@
 /* A vertical edge, sampled every quarter of a pixel, called from C. From the top of the repository:
  *
- *     rt staticlib gong
- *     cc -Iinclude examples/c/sample.c target/staticlib/libgong.a -o sample
+ *     (cd crates/gong && rt lib)
+ *     cc -Iinclude examples/c/sample.c crates/gong/out/libgong.a -o sample
  *     ./sample
  */
 #include <inttypes.h>

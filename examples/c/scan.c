@@ -1,7 +1,7 @@
 /* A picture filtered while it is still being read, called from C. From the top of the repository:
  *
- *     rt staticlib gong
- *     cc -Iinclude examples/c/scan.c target/staticlib/libgong.a -o scan
+ *     (cd crates/gong && rt lib)
+ *     cc -Iinclude examples/c/scan.c crates/gong/out/libgong.a -o scan
  *     ./scan < examples/c/scan.pgm
  *
  * The picture is an 8-bit PGM file (P5, without comments), and is read a row at a time. Each filtered row is

@@ -1,8 +1,8 @@
 /* A picture filtered and counted, and the threshold between its dark and its bright levels, called
  * from C. From the top of the repository:
  *
- *     rt staticlib gong
- *     cc -Iinclude examples/c/threshold.c target/staticlib/libgong.a -o threshold
+ *     (cd crates/gong && rt lib)
+ *     cc -Iinclude examples/c/threshold.c crates/gong/out/libgong.a -o threshold
  *     ./threshold
  */
 #include <inttypes.h>
