@@ -4,7 +4,10 @@ Its docstring is the rule; those about words stand in words.py. `.ci/house` runs
 on planted faults.
 """
 import re
+import shutil
 import subprocess
+import tempfile
+from pathlib import Path
 
 from promises import Page
 from tree import brought, items, outside, parted, source
@@ -15,9 +18,14 @@ UNDETERMINED = ('streams::read',)
 
 
 def layout(tree):
-    """rt fmt has nothing to change"""
-    said = subprocess.run(['rt', 'fmt', '--check'], cwd=tree.top, capture_output=True, text=True)
-    return [] if said.returncode == 0 else (said.stdout + said.stderr).splitlines()
+    """rt fmt has nothing to change: it lays out a copy of the crates"""
+    with tempfile.TemporaryDirectory() as copy:
+        for part in ('src', 'specs', 'proofs'):
+            for folder in tree.top.glob(f'crates/*/{part}'):
+                shutil.copytree(folder, Path(copy) / part / folder.parent.name)
+        said = subprocess.run(['rt', 'fmt'], cwd=copy, capture_output=True, text=True)
+    changed = re.findall(r'^rt: formatted (\w+)/(\w+)/(.*)', said.stdout, re.M)
+    return [f'crates/{crate}/{part}/{name}' for part, crate, name in changed] or [said.stdout + said.stderr] * (said.returncode != 0)
 
 
 def no_requires(tree):
@@ -58,7 +66,7 @@ def is_signature(parts, function):
 
 
 def determined(tree):
-    """docs/PROMISES.md says of each of them why any two outcomes are equal, and that is so: the theorem `one-CALL` is public in
+    """docs/PROMISES.md says of each of them why any two outcomes are equal, and that is so: the theorem `one_CALL` is public in
     proofs/Outcomes.antt of its crate, or the promise is that of another call which has one, or it is an equation for the result;
     or the call is listed as undetermined"""
     page = promises(tree)
@@ -91,19 +99,19 @@ def undetermined(tree, page, function):
 
 
 def own_theorem(function):
-    """The name of the theorem that a call is determined: the call's own, with hyphens."""
-    return f'one-{function.name.rpartition("::")[2].replace("_", "-")}'
+    """The name of the theorem that a call is determined: the call's own."""
+    return f'one_{function.name.rpartition("::")[2]}'
 
 
 def cited_theorem(parts):
     """The theorem that a part "Determined" begins with, and the file that it names."""
-    cited = re.match(r'`(one-[\w-]+)`(?: \(([^()]*)\))?', parts.get('determined', ''))
+    cited = re.match(r'`(one_\w+)`(?: \(([^()]*)\))?', parts.get('determined', ''))
     return cited.groups() if cited else (None, None)
 
 
 def theorems(tree, path):
     """The public theorems of a proof file."""
-    return re.findall(r'^ *pub ([\w-]+) :', tree.text(path), re.M) if (tree.top / path).exists() else []
+    return re.findall(r'^ *pub (\w+) :', tree.text(path), re.M) if (tree.top / path).exists() else []
 
 
 def another_promise(tree, page, function, theorem):
@@ -122,26 +130,25 @@ def another_promise(tree, page, function, theorem):
 
 
 def is_equation(function):
-    """Whether a promise settles the result by an equation, `r ≡ ..`, or each field of it by one, `r .field ≡ ..`, and nothing is
-    lent that the call could change."""
+    """Whether a promise settles the result by an equation, `result ≡ ..`, or each field of it by one, `result.field ≡ ..`, and
+    nothing is lent that the call could change."""
     if '&mut' in function.head.partition('ensures')[0]:
         return False
-    found = [re.fullmatch(r'λ (\S+)\. ⌜ (.*) ⌝', text) for text in function.promises()]
-    sides = {side for one in found if one for side in settled(*one.groups())}
+    sides = {side for text in function.promises() for side in settled(text)}
     return 'all' in sides or bool(fields(function)) and sides >= set(fields(function))
 
 
 WORD = re.compile(r'[^\s(){}.;,]+')  # a name of antt, or a sign
 
 
-def settled(result, text):
+def settled(text):
     """What the equations of a promise settle: the fields of the result that they name, or all of it. Where anything else than
     equations, joined by ×, stands outside of its brackets, nothing."""
     for part in parted(text, ' × ') if not OTHER & set(outside(text).split()) else []:
         part = part[1:-1] if re.fullmatch(r'\( *\)', outside(part)) else part
         left, *right = parted(part, ' ≡ ')
-        field = re.fullmatch(rf'{re.escape(result)}(?: \.(\w+))?', left)
-        if field and len(right) == 1 and not OTHER & set(outside(part).split()) and result not in WORD.findall(right[0]):
+        field = re.fullmatch(r'result(?:\.(\w+))?', left)
+        if field and len(right) == 1 and not OTHER & set(outside(part).split()) and 'result' not in WORD.findall(right[0]):
             yield field.group(1) or 'all'
 
 
@@ -192,16 +199,16 @@ def wrong_programs(tree):
                      for path in sorted(crate.glob('must-fail/*.edit')) if path.stem not in said]
 
 
-# What the prover says where a proof file answers other needs than the code now has.
-MISFIT = re.compile(r'has no `Need-|expected type `\S*Need-\S*`, but this has type `\S*Need-')
+REFUSED = re.compile(r'^rt: must-fail (\S+)/(\S+)\.edit: refused, as it must be(?! \(only because)', re.M)
 
 
 def telling_edits(tree):
-    """each must-fail edit is refused for a fact, and not because the proof file no longer fits the code"""
+    """each must-fail edit is refused for a fact, and not because the proof file no longer fits the code: target/proofs.log, which
+    .ci/run keeps of `rt ci`, says so of each"""
+    log = tree.top / 'target/proofs.log'
+    told = REFUSED.findall(log.read_text(encoding='utf-8')) if log.exists() else []
     edits = [(path.parent.parent.name, path.stem) for path in tree.top.glob('crates/*/must-fail/*.edit')]
-    logs = {edit: tree.top / 'target' / 'must-fail' / edit[0] / edit[1] / '.log' for edit in edits}
-    return [f'{crate}/{label}' for (crate, label), log in sorted(logs.items())
-            if not log.exists() or MISFIT.search(log.read_text(encoding='utf-8'))]
+    return [f'{crate}/{label}' for crate, label in sorted(set(edits) - set(told))]
 
 
 def one_table(tree):
@@ -281,22 +288,24 @@ def declared(tree):
 def readme(tree):
     """what README.md shows of the programs is what they print"""
     text = tree.text('README.md')
-    sample = re.search(r'^    rt check gongspindle && target/bin/gongspindle < (\S+)$', text, re.M).group(1)
-    request = re.search(r'^    (printf .*) \| target/bin/calls$', text, re.M).group(1)
-    shown = [f'second/first.py gongspindle < {sample}', f'{request} | second/first.py calls']
+    sample = re.search(r'^    \(cd crates/gongspindle && rt run < (\S+)\)$', text, re.M).group(1)
+    request = re.search(r'^    (printf .*) \| crates/calls/out/calls$', text, re.M).group(1)
+    shown = [f'cd crates/gongspindle && out/gongspindle < {sample}', f'{request} | crates/calls/out/calls']
     said = [subprocess.run(words, shell=True, cwd=tree.top, capture_output=True, text=True).stdout for words in shown]
     return [words for words, lines in zip(shown, said)
             if not lines or ''.join(f'    {line}\n' for line in lines.splitlines()) not in text]
 
 
+# The path to the filter's crate; also what can hide it, another name for the path's beginning or a list right behind it.
+ITS_PATH = re.compile(r'\bRattle\b»?(?:\s*\.\s*(?:«?filter\b|\{)|\s+as\b)')
 # The filter's contract, and the laws of that contract: names in braces, each by itself.
 ITS_CONTRACT = re.compile(r'\.(?:specs\.Filter|proofs\.Outcomes)\.\{[^{}.]*\}')
 # The contract of a row by itself, what a row of a pass and a pass are, and three laws of these: for the crates whose promises
 # speak of rows.
 BY_ROWS = 'scan', 'beam'
 ITS_ROWS = re.compile(ITS_CONTRACT.pattern + r"""|\.(?:specs\.Row|proofs\.RowOutcomes)\.\{[^{}.]*\}
-    |\.specs\.Median\.\{(?:rowOf|passRow|pass)(?:,\ (?:rowOf|passRow|pass))*\}
-    |\.proofs\.(?:Blocks\.\{length-row\}|Ranges\.\{most-row\}|Drawn\.\{length-pass\})""", re.X)
+    |\.specs\.Median\.\{(?:row_of|pass_row|pass)(?:,\ (?:row_of|pass_row|pass))*\}
+    |\.proofs\.(?:Blocks\.\{length_row\}|Ranges\.\{most_row\}|Drawn\.\{length_pass\})""", re.X)
 # The filter's crate in a program: by itself, or on the way to something in it.
 ITS_CRATE = re.compile(r'\b(?:use|crate)\s+(?:::\s*)?filter\b(?!\s*::)|\bfilter\s*::\s*(\w*)(\s*::|\s+as\b)?')
 
@@ -311,11 +320,11 @@ def contract_alone(tree):
     """the crates above the filter cite its contract and the laws of that contract, call its public functions, and name nothing
     else of it, by whatever name; those that go by rows also what a row is"""
     faults = []
-    for folder in (tree.top / 'crates' / name for name in above_the_filter(tree)):
-        contract_of = ITS_ROWS if folder.name in BY_ROWS else ITS_CONTRACT
-        for path in sorted(folder.rglob('*.antt')) + sorted(folder.rglob('*.rt')):
+    for name in above_the_filter(tree):
+        contract_of = ITS_ROWS if name in BY_ROWS else ITS_CONTRACT
+        for path in tree.sources(name):
             text = source(path) if path.suffix == '.rt' else path.read_text(encoding='utf-8')
-            cited = [(found.start(), contract_of.match(text, found.end())) for found in re.finditer('Rattle·filter', text)]
+            cited = [(found.start(), contract_of.match(text, found.end())) for found in ITS_PATH.finditer(text)]
             places = [at for at, contract in cited if not contract or re.search(r'\bas\b', contract.group())]
             if path.suffix == '.rt':
                 places += [found.start() for found in ITS_CRATE.finditer(text)
@@ -330,8 +339,7 @@ def line_at(text, place):
 
 def small_rooms(tree):
     """no file of Rattle or antt has more than 400 lines"""
-    return [str(path.relative_to(tree.top)) for end in ('rt', 'antt') for path in tree.top.glob(f'crates/**/*.{end}')
-            if len(path.read_text(encoding='utf-8').splitlines()) > 400]
+    return [str(path.relative_to(tree.top)) for path in tree.sources() if len(path.read_text(encoding='utf-8').splitlines()) > 400]
 
 
 RULES = (layout, no_requires, has_ensures, promised, determined, wrong_programs, telling_edits, one_table, one_version, one_bound,

@@ -6,7 +6,7 @@ PICTURE, JUDGE, UNITS, ARITHMETIC, GONG = (f'crates/{name}/src/lib.rt' for name 
 SHAPES_OF, VERDICTS = 'crates/picture/proofs/Outcomes.antt', 'crates/judge/proofs/Outcomes.antt'
 IN_PICTURE = 'crates/picture/src/m.rt'  # no such file is there
 PAGE, HEADER, README = 'docs/PROMISES.md', 'include/gong.h', 'README.md'
-LOG = 'target/must-fail/picture/side-to-1025/.log'
+LOG = 'target/proofs.log'
 
 
 @dataclass
@@ -43,9 +43,10 @@ def gone(path):
 
 
 # A function that keeps every rule of a head. It stands after each planted one, whose contracts its own must not be taken for.
-NEXT = '\n\npub fn next_one(x: u8) -> u8\n    ensures { λ r. ⌜ r ≡ x ⌝ }\n{\n    x\n}\n'
-PROMISE = '\n    ensures { λ r. ⌜ r ≡ x ⌝ }'
-DEMAND = '\n    requires { ⌜ P (record { a = x; b = { x } }) ⌝ }'
+NEXT = '\n\npub fn next_one(x: u8) -> u8\n    ensures { result ≡ x }\n{\n    x\n}\n'
+PROMISE, NAMED_PROMISE = '\n    ensures { result ≡ x }', '\n    ensures same { result ≡ x }'
+DEMAND = '\n    requires { P (record { a = x; b = { x } }) }'
+NAMED_DEMAND = DEMAND.replace('requires', 'requires small')
 # Public functions of every shape: the signature, and what follows its contracts.
 SHAPES = [
     ('\npub fn bare(x: u8) -> u8', ' {\n    x\n}'),
@@ -55,7 +56,7 @@ SHAPES = [
     ('\npub fn bare(x: &[u8; 8]) -> [u8; 8]', '\n{\n    [0; 8]\n}'),
     ('\npub fn bare(x: &mut u8)', ' {\n    if *x < 1 { *x = b\'{\'; }\n}'),
     ("\npub fn bare<'a>(x: &'a [u8]) -> &'a [u8]", ' {\n    x\n}'),
-    ('\n#[no_mangle]\npub extern "C" fn bare(x: u8) -> u8', '\n{\n    x\n}'),
+    ('\n#[unsafe(no_mangle)]\npub extern "C" fn bare(x: u8) -> u8', '\n{\n    x\n}'),
     ('\n// ensures { all }\npub fn bare(x: u8) -> u8 // ensures { all }', '\n{\n    x // requires { }\n}'),
     ('\n/* { */\npub fn bare(x: u8) -> u8 /* ensures { all } */', ' {\n    x\n}'),
     ('\nextern "C" {\n    pub fn bare(x: &[u8; 8]) -> u8', ';\n}'),
@@ -71,11 +72,12 @@ def instead_of(path, old, *news):
 
 
 LAST_CALL = '    // How many eighths of a level they are.\n    pub fn amount(self) -> u64'
-LAST_PROMISE = '\n        ensures { λ r. ⌜ r ≡ self .0 ⌝ }\n    {'
+LAST_PROMISE = '\n        ensures { result ≡ self.0 }\n    {'
 HAS_ENSURES = [
     *[fault('picture::bare', in_picture(signature + rest)) for signature, rest in SHAPES],
     *[fault('picture::bare', in_picture(signature + DEMAND + rest)) for signature, rest in SHAPES],
-    *[fine(in_picture(signature + PROMISE + rest)) for signature, rest in SHAPES],
+    *[fault('picture::bare', in_picture(signature + NAMED_DEMAND + rest)) for signature, rest in SHAPES],
+    *[fine(in_picture(signature + promise + rest)) for signature, rest in SHAPES for promise in (PROMISE, NAMED_PROMISE)],
     fault('units::Picometres::twice', at_end(UNITS, '\nimpl Picometres {\n    pub fn twice(self) -> u64 {\n        0\n    }\n}\n')),
     fault('units::Held::bare', at_end(UNITS, "\nimpl<'a> Held<'a> {\n    pub fn bare(self) -> u64 {\n        0\n    }\n}\n")),
     fault('units::Eighths::amount', Change(UNITS, LAST_CALL + LAST_PROMISE, LAST_CALL + ' {')),
@@ -90,7 +92,8 @@ HAS_ENSURES = [
 NO_REQUIRES = [
     *[fault('picture::bare', in_picture(signature + DEMAND + PROMISE + rest)) for signature, rest in SHAPES],
     *[fault('picture::bare', in_picture(signature + PROMISE + DEMAND + rest)) for signature, rest in SHAPES],
-    *[fine(in_picture(signature + PROMISE + rest)) for signature, rest in SHAPES],
+    *[fault('picture::bare', in_picture(signature + NAMED_DEMAND + NAMED_PROMISE + rest)) for signature, rest in SHAPES],
+    *[fine(in_picture(signature + promise + rest)) for signature, rest in SHAPES for promise in (PROMISE, NAMED_PROMISE)],
     fault('length::halve', Change('crates/length/src/lib.rt', '\nfn halve(', '\npub fn halve(')),
     fault('judge::noise::spread', Change('crates/judge/src/noise.rt', 'pub(crate) fn spread', 'pub fn spread')),
 ]
@@ -116,51 +119,51 @@ PROMISED = [
     *[fine(change) for change in instead_of(PAGE, 'Given { number, rows }', 'Given', 'Given, of which more is below')],
 ]
 
-EQUATION = 'λ r. ⌜ r ≡ sixteenths n ⌝'
+EQUATION = 'result ≡ sixteenths n'
 TWO_FIELDS = Change(UNITS, 'Sixteenths(i64);', 'Sixteenths(i64, i64);')
 TWO_NAMES = Change(UNITS, 'Sixteenths(i64);', 'Sixteenths {\n    low: i64,\n    high: i64,\n}')
 SENTENCE = 'Determined: each promise is an equation for the result.'
-OF_SIZES, NOT_SO = '- **Determined**: `one-sizes` (proofs/Outcomes.antt).', '- **Not determined**: nobody knows.'
-THE_SAME = '`one-filter`, since it is the same promise'
-FILTER_IS = 'FilterIs (now (levels .entry)) width height'
+OF_SIZES, NOT_SO = '- **Determined**: `one_sizes` (proofs/Outcomes.antt).', '- **Not determined**: nobody knows.'
+THE_SAME = '`one_filter`, since it is the same promise'
+FILTER_IS = 'FilterIs levels.now width height'
 DETERMINED = [
     # a promise that is no equation for the result, where the section says that each is one
     *[fault('units::Sixteenths::of', change) for change in instead_of(
-        UNITS, EQUATION, 'λ r. ⌜ Near r n ⌝', 'λ r. ⌜ r ≡ r ⌝', 'λ r. ⌜ n ≡ n ⌝', 'λ r. ⌜ r ≡ sixteenths (r .0) ⌝',
-        'λ r. ⌜ (r ≡ sixteenths n) ⊎ (r ≡ sixteenths 0) ⌝', 'λ r. ⌜ (n ≡ 0) → (r ≡ sixteenths n) ⌝',
-        'λ r. ⌜ (n ≡ 0) → (n ≡ n) × (r ≡ sixteenths n) ⌝', 'λ r. ⌜ Unless (n ≡ 0) (r ≡ sixteenths n) (r ≡ sixteenths n) ⌝',
-        'λ r. ⌜ r ≡ sixteenths n ⊎ n ≡ 0 ⌝', 'λ r. ⌜ ((r ≡ sixteenths n) ⊎ (n ≡ 0)) × (n ≡ n) ⌝', 'λ _. ⌜ n ≡ n ⌝')],
+        UNITS, EQUATION, 'Near result n', 'result ≡ result', 'n ≡ n', 'result ≡ sixteenths (result.0)',
+        '(result ≡ sixteenths n) ⊎ (result ≡ sixteenths 0)', '(n ≡ 0) → (result ≡ sixteenths n)',
+        '(n ≡ 0) → (n ≡ n) × (result ≡ sixteenths n)', 'Unless (n ≡ 0) (result ≡ sixteenths n) (result ≡ sixteenths n)',
+        'result ≡ sixteenths n ⊎ n ≡ 0', '((result ≡ sixteenths n) ⊎ (n ≡ 0)) × (n ≡ n)', 'True')],
     *[fine(change) for change in instead_of(
-        UNITS, EQUATION, 'λ s. ⌜ s ≡ sixteenths (n + 0) ⌝', 'λ r. ⌜ r .0 ≡ n ⌝', 'λ r. ⌜ (r ≡ sixteenths n) × (n ≡ n) ⌝',
-        'λ r. ⌜ n ≡ n ⌝ } ensures { λ r. ⌜ r ≡ sixteenths n ⌝')],
-    fault('units::Sixteenths::of', Change(UNITS, EQUATION, 'λ r. ⌜ r .0 ≡ n ⌝'), TWO_FIELDS),
-    fine(Change(UNITS, EQUATION, 'λ r. ⌜ (r .0 ≡ n) × (r .1 ≡ n) ⌝'), TWO_FIELDS),
-    fault('units::Sixteenths::of', Change(UNITS, EQUATION, 'λ r. ⌜ r .low ≡ n ⌝'), TWO_NAMES),
-    fine(Change(UNITS, EQUATION, 'λ r. ⌜ (r .low ≡ n) × (r .high ≡ n) ⌝'), TWO_NAMES),
+        UNITS, EQUATION, 'result ≡ sixteenths (n + 0)', 'result.0 ≡ n', '(result ≡ sixteenths n) × (n ≡ n)',
+        'n ≡ n } ensures { result ≡ sixteenths n')],
+    fault('units::Sixteenths::of', Change(UNITS, EQUATION, 'result.0 ≡ n'), TWO_FIELDS),
+    fine(Change(UNITS, EQUATION, '(result.0 ≡ n) × (result.1 ≡ n)'), TWO_FIELDS),
+    fault('units::Sixteenths::of', Change(UNITS, EQUATION, 'result.low ≡ n'), TWO_NAMES),
+    fine(Change(UNITS, EQUATION, '(result.low ≡ n) × (result.high ≡ n)'), TWO_NAMES),
     fault('arithmetic::natural', Change(ARITHMETIC, 'natural(z: i64)', 'natural(z: i64, y: &mut u64)')),
     *[fault('units::', change) for change in instead_of(PAGE, SENTENCE, '', 'Determined: nobody has looked for an equation.')],
     # a theorem that is not there, or not where it must be, or not the call's own
     *[fault('picture::shape', change) for change in instead_of(
-        PAGE, '`one-shape` (proofs/Outcomes.antt)', '`one-shape`', '`one-shape` (proofs/Lib.antt)',
-        '`one-shape` (proofs/None.antt)', '`one-form` (proofs/Outcomes.antt)', 'by the same promise',
-        '`pixels` (proofs/Shapes.antt)', '`one-number` (crates/text/proofs/Outcomes.antt)')],
-    *[fault('picture::shape', change) for change in instead_of(SHAPES_OF, 'pub one-shape :', 'one-shape :', 'pub one-form :')],
-    fault('picture::shape', Change(PAGE, '`one-shape` (proofs/Outcomes.antt)', '`one-shape` (proofs/Moved.antt)'),
-          at_end('crates/picture/proofs/Moved.antt', 'pub one-shape : ℕ\n')),
-    fault('picture::shape', Change(PAGE, '`one-shape` (proofs/Outcomes.antt)', '`one-form` (proofs/Outcomes.antt)'),
-          Change(SHAPES_OF, 'pub one-shape :', 'pub one-form :')),
-    fault('filter::sizes', Change(PAGE, '`one-sizes` (proofs/Outcomes.antt)', '`one-filter` (proofs/Outcomes.antt)')),
+        PAGE, '`one_shape` (proofs/Outcomes.antt)', '`one_shape`', '`one_shape` (proofs/Lib.antt)',
+        '`one_shape` (proofs/None.antt)', '`one_form` (proofs/Outcomes.antt)', 'by the same promise',
+        '`pixels` (proofs/Shapes.antt)', '`one_number` (crates/text/proofs/Outcomes.antt)')],
+    *[fault('picture::shape', change) for change in instead_of(SHAPES_OF, 'pub one_shape :', 'one_shape :', 'pub one_form :')],
+    fault('picture::shape', Change(PAGE, '`one_shape` (proofs/Outcomes.antt)', '`one_shape` (proofs/Moved.antt)'),
+          at_end('crates/picture/proofs/Moved.antt', 'pub one_shape : ℕ\n')),
+    fault('picture::shape', Change(PAGE, '`one_shape` (proofs/Outcomes.antt)', '`one_form` (proofs/Outcomes.antt)'),
+          Change(SHAPES_OF, 'pub one_shape :', 'pub one_form :')),
+    fault('filter::sizes', Change(PAGE, '`one_sizes` (proofs/Outcomes.antt)', '`one_filter` (proofs/Outcomes.antt)')),
     # a promise that is said to be another call's and is not
     *[fault('gong::gong_filter', change) for change in instead_of(
-        GONG, FILTER_IS, 'FilterIs (now (levels .entry)) height width', 'SizesAre (now (levels .entry)) width height')],
-    fault('gong::gong_filter', Change(GONG, 'Rattle·filter.specs.Filter.', 'Rattle·gong·specs.specs.Own.')),
+        GONG, FILTER_IS, 'FilterIs levels.now height width', 'SizesAre levels.now width height')],
+    fault('gong::gong_filter', Change(GONG, 'Rattle.filter.specs.Filter.', 'Rattle.gong.specs.Own.')),
     fault('gong::gong_filter', Change(GONG, '{outcome, FilterIs}', '{outcome, Sized as FilterIs}')),
     *[fault('gong::gong_filter', change) for change in instead_of(
         PAGE, 'word for word that of `filter::filter`', 'the same', 'that of `filter::sizes`', 'that of `filter::nothing`')],
     *[fault('gong::gong_filter', change) for change in instead_of(
-        PAGE, THE_SAME, '`one-count`, since it is the same promise', '`one-filter`, since it is so',
-        'since it is the same promise', '`one-filter` (proofs/Outcomes.antt)',
-        '`one-filter` (crates/filter/proofs/Outcomes.antt)')],
+        PAGE, THE_SAME, '`one_count`, since it is the same promise', '`one_filter`, since it is so',
+        'since it is the same promise', '`one_filter` (proofs/Outcomes.antt)',
+        '`one_filter` (crates/filter/proofs/Outcomes.antt)')],
     # what no contract can determine
     fault('filter::sizes', Change(PAGE, OF_SIZES, NOT_SO)),
     fine(Change(PAGE, OF_SIZES, NOT_SO), listed=('filter::sizes',)),
@@ -194,10 +197,14 @@ WRONG_PROGRAMS = [
           at_end(PAGE, '\n## Other programs\n\n`longer-than-the-space`\n')),
 ]
 
+TOLD = 'rt: must-fail picture/side-to-1025.edit: '  # and then what came of it
+REFUSED = f'{TOLD}refused, as it must be'
 TELLING_EDITS = [
-    fault('picture/side-to-1025', at_end(LOG, 'error: `Tie` has no `Need-shape-ensures`')),
-    fault('picture/side-to-1025', at_end(LOG, 'expected type `tie.Need-a`, but this has type `tie.Need-b`')),
-    fault('picture/side-to-1025', gone(LOG)),
+    *[fault('picture/side-to-1025', change) for change in instead_of(
+        LOG, REFUSED, f'{REFUSED} (only because a proof file names what the edit took away)', f'{TOLD}NOT REFUSED', f'{TOLD}NOT TRIED',
+        f'{TOLD}BAD EDIT: an \'old:\' text is in src/lib.rt 2 times', '', REFUSED.replace('picture', 'pictures'))],
+    fine(Change(LOG, REFUSED, f'{REFUSED} (only by a limit of the prover)')),
+    fault('/', gone(LOG)),
     fault('filter/new-one', at_end('crates/filter/must-fail/new-one.edit', 'file: src/lib.rt\n')),
 ]
 
@@ -245,7 +252,7 @@ DECLARED = [
     fault('gong_length', Change(HEADER, 'uint8_t gong_length(int64_t factor', 'uint8_t gong_length(uint64_t factor')),
     fault('gong_length', Change(GONG, 'gong_length(factor: i64, pixel: u64', 'gong_length(factor: i64, pixel: i64')),
     fault('gong_more', at_end(HEADER, '\nuint8_t gong_more(uint64_t n);\n')),
-    fault('gong_more', at_end(GONG, '\n#[no_mangle]\npub extern "C" fn gong_more(n: u64) -> u8 {\n    0\n}\n')),
+    fault('gong_more', at_end(GONG, '\n#[unsafe(no_mangle)]\npub extern "C" fn gong_more(n: u64) -> u8 {\n    0\n}\n')),
 ]
 
 READ_ME = [
@@ -254,43 +261,47 @@ READ_ME = [
     fault('NoneType', Change(README, '| target/bin/calls\n', '| calls\n')),
 ]
 
-CITED = 'use Rattle·filter.specs.Filter.{passThree}'
+CITED = 'use Rattle.filter.specs.Filter.{pass_three}'
 CALLS = 'crates/calls/src/asked.rt'
-TWOS, BLOCKS = 'crates/scan/proofs/Twos.antt', 'use Rattle·filter.proofs.Blocks.{length-row}'
+TWOS, BLOCKS = 'crates/scan/proofs/Twos.antt', 'use Rattle.filter.proofs.Blocks.{length_row}'
 CONTRACT_ALONE = [
     *[fault(VERDICTS, change) for change in instead_of(
-        VERDICTS, CITED, 'use Rattle·filter.proofs as p', 'use Rattle·filter as f', 'use Rattle·filter', 'use Rattle·filter.specs.Filter',
-        'use Rattle·filter.specs.Filter as F', 'use Rattle·filter.proofs.{Sorting}', 'use Rattle·filter.proofs.Sorting.{ascending}',
-        'use Rattle·filter. proofs.Sorting.{ascending}', 'use Rattle·filter\n    .proofs.Sorting.{ascending}',
-        'use «Rattle·filter».specs.Filter.{x}', 'use Rattle·filter·proofs.proofs.Sorting.{x}',
-        'use Rattle·filter.specs.Filter.{passThree as e}', 'use Rattle·filter.specs.Filter.{Median.x}',
-        'use Rattle·filter.specs.Median.{pass}', 'use package.Rattle·filter.specs.Whiteboard.{x}')],
-    fine(Change(VERDICTS, CITED, f'{CITED[:-1]},\n    Sized}}\nuse Rattle·filter.proofs.Outcomes.{{Fits, when-fits}}')),
+        VERDICTS, CITED, 'use Rattle.filter.proofs as p', 'use Rattle.filter as f', 'use Rattle.filter', 'use Rattle.filter.specs.Filter',
+        'use Rattle.filter.specs.Filter as F', 'use Rattle.filter.proofs.{Sorting}', 'use Rattle.filter.proofs.Sorting.{ascending}',
+        'use Rattle.filter. proofs.Sorting.{ascending}', 'use Rattle.filter\n    .proofs.Sorting.{ascending}',
+        'use Rattle.«filter».specs.Filter.{x}', 'use Rattle. filter.proofs.Sorting.{x}',
+        'use Rattle.filter.specs.Filter.{pass_three as e}', 'use Rattle.filter.specs.Filter.{Median.x}',
+        'use Rattle.filter.specs.Median.{pass}', 'use package.Rattle.filter.specs.Whiteboard.{x}', 'use Rattle.{filter}',
+        'use Rattle as r', 'use «Rattle».filter.specs.Median.{pass}')],
+    fine(Change(VERDICTS, CITED, f'{CITED[:-1]},\n    Sized}}\nuse Rattle.filter.proofs.Outcomes.{{Fits, when_fits}}')),
     *[fault(JUDGE, change) for change in instead_of(
         JUDGE, 'use answers::table;', 'use filter as f;', 'use filter;', 'use filter::passes;', 'use filter::sizes as s;',
         'use filter::{sizes};', 'use ::filter as f;', 'extern crate filter as f;', 'use filter::*;',
-        'ghost use Rattle·filter·specs.specs.Filter.{Sized};')],
+        'ghost use Rattle.filter.specs.Sorting.{Sized};')],
     *[fault(JUDGE, change) for change in instead_of(
         JUDGE, 'filter::sizes(levels', 'filter::rows::one_row(levels', 'filter :: rows(levels', 'filter::filter::sizes(levels')],
     fine(Change(JUDGE, 'use answers::table;', '// filter::passes has more\nuse filter::sizes;\nuse filtered::more;')),
-    fault(GONG, Change(GONG, 'ghost use Rattle·filter.specs.Filter.', 'ghost use Rattle·filter.specs.Median.')),
+    fault(GONG, Change(GONG, 'ghost use Rattle.filter.specs.Filter.', 'ghost use Rattle.filter.specs.Median.')),
     fault(CALLS, Change(CALLS, 'filter::filter(', 'filter::passes(')),
     # a crate that goes by rows may say what a row is, and no more
     *[fault(TWOS, change) for change in instead_of(
-        TWOS, BLOCKS, 'use Rattle·filter.proofs.Blocks.{length-row, lower-row}', 'use Rattle·filter.proofs.Blocks.{lower-row}',
-        'use Rattle·filter.proofs.Sorting.{ascending}', 'use Rattle·filter.specs.Median.{rowOf, near}', 'use Rattle·filter.proofs.Blocks')],
-    fine(Change(TWOS, BLOCKS, f'{BLOCKS}\n{CITED}\nuse Rattle·filter.specs.Median.{{pass, rowOf}}')),
+        TWOS, BLOCKS, 'use Rattle.filter.proofs.Blocks.{length_row, lower_row}', 'use Rattle.filter.proofs.Blocks.{lower_row}',
+        'use Rattle.filter.proofs.Sorting.{ascending}', 'use Rattle.filter.specs.Median.{row_of, near}', 'use Rattle.filter.proofs.Blocks')],
+    fine(Change(TWOS, BLOCKS, f'{BLOCKS}\n{CITED}\nuse Rattle.filter.specs.Median.{{pass, row_of}}')),
     fault(VERDICTS, Change(VERDICTS, CITED, BLOCKS)),
     # a crate that is new, above the filter and not above it
     fault('crates/more', at_end('crates.txt', 'more: filter\n'), at_end('crates/more/src/lib.rt', 'use filter as f;\n')),
     fine(at_end('crates.txt', 'more: arithmetic\n'), at_end('crates/more/src/lib.rt', 'use filter as f;\n')),
+    # what rt keeps
+    fine(at_end('crates/judge/out/kept.rt', 'use filter as f;\n')),
 ]
 
 # Another name of the C door, in some place that the rule looks through.
 WORDS = 'the C face', 'A C face', 'by the C Face,'
 PLACES = (README, PAGE, HEADER, PICTURE, VERDICTS, 'crates.txt', 'docs/landings/new.md', 'examples/c/filter.c', 'bench/README.md',
           'bench/new/one.py', 'second/rules.py', 'crates/filter/must-fail/zero-padding.edit', 'crates/new/src/main.rt', '.ci/run')
-NO_PLACES = '.ci/planted.py', 'bench/target/x.py', 'second/target/new.py', 'docs/drawings/new.svg', 'crates/filter/notes.txt'
+NO_PLACES = ('.ci/planted.py', 'bench/target/x.py', 'second/target/new.py', 'docs/drawings/new.svg', 'crates/filter/notes.txt',
+             'crates/filter/out/new.rt')
 ONE_NAME = [
     *[fault(README, at_end(README, f'\n{word}\n')) for word in WORDS],
     *[fault(place, at_end(place, f'\n// {WORDS[0]}\n')) for place in PLACES],
@@ -326,7 +337,8 @@ PLANTED = {
     'contract_alone': CONTRACT_ALONE,
     'one_name': ONE_NAME,
     'all_there': ALL_THERE,
-    'small_rooms': [fault(PICTURE, at_end(PICTURE, '//\n' * 400)), fault(VERDICTS, at_end(VERDICTS, '--\n' * 400))],
+    'small_rooms': [fault(PICTURE, at_end(PICTURE, '//\n' * 400)), fault(VERDICTS, at_end(VERDICTS, '--\n' * 400)),
+                    fine(at_end('crates/picture/out/kept.rt', '//\n' * 401))],
     'short_notes': [fault('landings/filter.md', at_end('docs/landings/filter.md', '\n' * 20)),
                     fault('landings/new.md', at_end('docs/landings/new.md', 'A line.\n' * 26)),
                     fine(at_end('docs/landings/new.md', 'A line.\n' * 25))],

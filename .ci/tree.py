@@ -1,7 +1,7 @@
 """What the rules of the house read of a tree: its crates, their public functions, and the contracts of these.
 
 A text is taken apart by its braces: an item ends with the `;` or with the body that is its own, and the
-braces of a contract, `ensures { .. }`, belong to the head that stands before that body.
+braces of a contract, `ensures { .. }` or `ensures NAME { .. }`, belong to the head that stands before that body.
 """
 import re
 from dataclasses import dataclass
@@ -10,7 +10,7 @@ from pathlib import Path
 
 # A comment, a text or a character: no brace in them opens or closes anything.
 QUOTED = re.compile(r'//[^\n]*|/\*.*?\*/|b?"(?:\\.|[^"\\])*"|b?\'(?:\\.|[^\'\\])\'', re.S)
-CONTRACT = re.compile(r'\b(requires|ensures)\s*$')
+CONTRACT = re.compile(r'\b(requires|ensures)(?:\s+\w+)?\s*$')
 PUBLIC = re.compile(r'\bpub (?:\w+ |extern "C" )*fn (\w+)')
 
 
@@ -118,9 +118,9 @@ def passed_on(module, text):
 
 
 def brought(text):
-    """What the `ghost use` lines of a text bring: each name's whole path, that of a crate's own as other crates write it."""
+    """What the `ghost use` lines of a text bring: each name's whole path."""
     lines = re.findall(r'\bghost use ([^{};]+)\.\{([^}]*)\}', text)
-    pairs = [(path.replace('·specs.specs', '.specs'), item.split(' as ')) for path, names in lines for item in names.split(',')]
+    pairs = [(path, item.split(' as ')) for path, names in lines for item in names.split(',')]
     return {item[-1].strip(): f'{path}.{item[0].strip()}' for path, item in pairs}
 
 
@@ -132,6 +132,11 @@ class Tree:
 
     def text(self, path):
         return (self.top / path).read_text(encoding='utf-8')
+
+    def sources(self, crate='*'):
+        """The files of Rattle and of antt in a crate, or in all; not what rt keeps of them in out/."""
+        found = (path for part in ('src', 'specs', 'proofs') for path in self.top.glob(f'crates/{crate}/{part}/**/*'))
+        return sorted(path for path in found if path.suffix in ('.rt', '.antt'))
 
     @cached_property
     def libraries(self):

@@ -12,7 +12,7 @@ def short_notes(tree):
 # What the rules about words look through: not what the planted faults write, which must have such words.
 TEXTS = ('README.md', 'crates.txt', 'docs/**/*.md', 'include/*.h', 'examples/**/*', 'bench/**/*', 'second/**/*', 'crates/**/*.rt',
          'crates/**/*.antt', 'crates/**/must-fail/*.edit', '.ci/*')
-SKIPPED = 'target', '__pycache__'
+SKIPPED = 'target', 'out', '__pycache__'
 LINE_BREAK = re.compile(r'[ \t]*\n[ \t]*(?:(?://|--|[#*])[ \t]*)?')
 
 
