@@ -288,9 +288,9 @@ def declared(tree):
 def readme(tree):
     """what README.md shows of the programs is what they print"""
     text = tree.text('README.md')
-    sample = re.search(r'^    \(cd crates/gongspindle && rt run < (\S+)\)$', text, re.M).group(1)
+    sample = re.search(r'^    \(cd crates/gongspindle && rt run\) < (\S+)$', text, re.M).group(1)
     request = re.search(r'^    (printf .*) \| crates/calls/out/calls$', text, re.M).group(1)
-    shown = [f'cd crates/gongspindle && out/gongspindle < {sample}', f'{request} | crates/calls/out/calls']
+    shown = [f'crates/gongspindle/out/gongspindle < {sample}', f'{request} | crates/calls/out/calls']
     said = [subprocess.run(words, shell=True, cwd=tree.top, capture_output=True, text=True).stdout for words in shown]
     return [words for words, lines in zip(shown, said)
             if not lines or ''.join(f'    {line}\n' for line in lines.splitlines()) not in text]

@@ -223,8 +223,8 @@ def compared():
 def proved():
     """crates/cases/proofs/Measured.antt has the larger picture of for-students.md, its eighths and its ratio"""
     now, source = Larger(), ' '.join((TOP / 'crates/cases/proofs/Measured.antt').read_text(encoding='utf-8').split())
-    return unsaid(source, f'larger = {" ∷ ".join(map(str, now.levels))} ∷ []', f'largerEighths = {" ∷ ".join(map(str, now.eighths))} ∷ []',
-                  f'larger-measured : Measures {LARGE} {LARGE} larger (verdict {now.number} {now.ratio})')
+    return unsaid(source, f'larger = {" ∷ ".join(map(str, now.levels))} ∷ []', f'larger_eighths = {" ∷ ".join(map(str, now.eighths))} ∷ []',
+                  f'larger_measured : Measures {LARGE} {LARGE} larger (verdict {now.number} {now.ratio})')
 
 
 TESTS = refused, larger, extremes, noise, ratio, rim, slopes, compared, proved

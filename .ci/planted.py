@@ -258,7 +258,7 @@ DECLARED = [
 READ_ME = [
     fault('gongspindle', Change(README, '    records 2\n', '    records 3\n')),
     fault('calls', Change(README, '    answered 1\n', '    answered 2\n')),
-    fault('NoneType', Change(README, '| target/bin/calls\n', '| calls\n')),
+    fault('NoneType', Change(README, '| crates/calls/out/calls\n', '| calls\n')),
 ]
 
 CITED = 'use Rattle.filter.specs.Filter.{pass_three}'

@@ -1,11 +1,10 @@
 """Where the pages send a reader, held to the tree: each function is a test with a name, which `.ci/pages` runs. It gives back what is
 wrong."""
 import re
-from pathlib import Path
 
+from reading import TOP, fenced
 from tree import Tree
 
-TOP = Path(__file__).resolve().parent.parent
 PARTS = 'Calls', 'Defined', 'Proved', 'Tried', 'Second program'  # what every section of rules.md ends with
 FIRST = 'Pictures and lent memory'  # the section of the first rule
 # The pages that are for people who use it: what they say by document 01 they also say by rules.md.
@@ -72,14 +71,15 @@ def sent_on():
             if re.search(r'document 01', text, re.I) and not re.search(r'\]\((?:\.\./)?(?:docs/)?rules\.md', text)]
 
 
+MODEL = 'crates/filter/src/block.rt', 'fn gather', 'crates/filter/proofs/block/gather'
+
+
 def model_proof():
-    """PROVING.md: the function and the proof that it explains are those of the crate"""
-    page, crate = text_of('docs/PROVING.md'), 'crates/picture/'
-    blocks = {kind: block for kind, block in re.findall(r'^```(\w+)\n(.*?)^```$', page, re.M | re.S)}
-    code = text_of(f'{crate}src/lib.rt')
-    function = code[code.index('pub fn shape'):]
-    return (['its proof'] * (blocks['antt'] != text_of(f'{crate}proofs/shape/Proof.antt'))
-            + ['its function'] * (blocks['rust'].split() != function.split()))
+    """PROVING.md: the function and the proof files that it explains are those of the crate"""
+    page, (source, head, folder) = text_of('docs/PROVING.md'), MODEL
+    found = re.search(rf'^{head}\b.*?^}}\n', text_of(source), re.M | re.S)
+    proofs = [text_of(f'{folder}/{name}.antt') for name in ('Invariants', 'Answers')]
+    return ['its function'] * (fenced(page, 'rust')[:1] != [found.group()]) + ['its proof'] * (fenced(page, 'antt')[:2] != proofs)
 
 
 def crates():
