@@ -312,8 +312,7 @@ ITS_CRATE = re.compile(r'\b(?:use|crate)\s+(?:::\s*)?filter\b(?!\s*::)|\bfilter\
 
 def above_the_filter(tree):
     """The crates that stand on the filter. Not `cases`, a table of tests, which cites the tests of the crates below."""
-    lines = re.findall(r'^(\w+):(.*)', tree.text('crates.txt'), re.M)
-    return [name for name, below in lines if 'filter' in below.split() and name != 'cases']
+    return [name for name, below in tree.below.items() if 'filter' in below and name != 'cases']
 
 
 def contract_alone(tree):

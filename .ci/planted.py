@@ -290,7 +290,8 @@ CONTRACT_ALONE = [
     fine(Change(TWOS, BLOCKS, f'{BLOCKS}\n{CITED}\nuse Rattle.filter.specs.Median.{{pass, row_of}}')),
     fault(VERDICTS, Change(VERDICTS, CITED, BLOCKS)),
     # a crate that is new, above the filter and not above it
-    fault('crates/more', at_end('crates.txt', 'more: filter\n'), at_end('crates/more/src/lib.rt', 'use filter as f;\n')),
+    *[fault('crates/more', at_end('crates.txt', f'more{kind}: filter\n'), at_end('crates/more/src/lib.rt', 'use filter as f;\n'))
+      for kind in ('', ' staticlib')],
     fine(at_end('crates.txt', 'more: arithmetic\n'), at_end('crates/more/src/lib.rt', 'use filter as f;\n')),
     # what rt keeps
     fine(at_end('crates/judge/out/kept.rt', 'use filter as f;\n')),

@@ -84,7 +84,7 @@ def model_proof():
 
 def crates():
     """README.md: its table of the crates has those of crates.txt, and what each stands on"""
-    listed = {name: set(below.split()) for name, below in re.findall(r'^(\w+):(.*)$', text_of('crates.txt'), re.M)}
+    listed = Tree(TOP).below
     shown = {name: set(re.findall(r'\w+', below))
              for name, below in re.findall(r'^\| \[(\w+)\]\(crates/\w+\) \|.*\|([^|]*)\|$', text_of('README.md'), re.M)}
     return [f'{name}: {sorted(shown.get(name, []))} and not {sorted(listed.get(name, set()) & listed.keys())}'

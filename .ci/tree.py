@@ -133,6 +133,11 @@ class Tree:
     def text(self, path):
         return (self.top / path).read_text(encoding='utf-8')
 
+    @cached_property
+    def below(self):
+        """What each crate stands on, by crates.txt: of a static library, whose line says so before the colon, too."""
+        return {name: set(below.split()) for name, below in re.findall(r'^(\w+)[^:\n]*:(.*)$', self.text('crates.txt'), re.M)}
+
     def sources(self, crate='*'):
         """The files of Rattle and of antt in a crate, or in all; not what rt keeps of them in out/."""
         found = (path for part in ('src', 'specs', 'proofs') for path in self.top.glob(f'crates/{crate}/{part}/**/*'))
