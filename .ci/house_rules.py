@@ -57,9 +57,7 @@ def promised(tree):
 def is_signature(parts, function):
     """Whether a call's signature on the page is that of its source. A row does not say the result; what the parts of a result are
     may follow its type."""
-    form = r'fn (\w+)(?:<[^>]*>)?\(([^)]*)\)(?: -> (.+?))?(?= requires\b| ensures\b|$)'
-    name, parameters, result = re.search(form, function.head).groups()
-    made = f'{name}({", ".join(part.strip() for part in parameters.split(",") if part.strip())})'
+    made, result = function.signature()
     if 'all' in parts or not result:
         return parts['signature'] == made
     return bool(re.match(rf'{re.escape(f"{made} → {result}")}(?:$|,| {{)', parts['signature']))

@@ -1,5 +1,6 @@
 """What .ci/house-test plants: for each rule of the house faults that it must name, and what looks like one and is none."""
 from dataclasses import dataclass
+from functools import partial
 
 PICTURE, JUDGE, UNITS, ARITHMETIC, GONG = (f'crates/{name}/src/lib.rt' for name in (
     'picture', 'judge', 'units', 'arithmetic', 'gong'))
@@ -116,6 +117,10 @@ PROMISED = [
     fault('units::Sixteenths::of is declared', Change(PAGE, 'Sixteenths::of`(n: i64)', 'Sixteenths::of`(n: u64)')),
     fault('length::length is declared', Change('crates/length/src/lib.rt', '(factor: Sixteenths,', '(factor: Picometres,')),
     fault('picture::shape is declared', Change(PICTURE, 'height: usize) -> u8', 'height: usize) -> u16')),
+    # parameters of types are not said, and a parameter's own type may have brackets
+    fine(Change(PICTURE, 'pub fn shape(', 'pub fn shape<R: Read<u8>, E>(')),
+    *[kind(Change('crates/streams/src/lib.rt', 'answer: std::io::Result<()>)', f'answer: std::io::Result<{inner}>)'))
+      for kind, inner in ((partial(fault, 'streams::sent is declared'), '(u8)'), (fine, '()'))],
     *[fine(change) for change in instead_of(PAGE, 'Given { number, rows }', 'Given', 'Given, of which more is below')],
 ]
 

@@ -21,11 +21,11 @@ def source(path):
     return QUOTED.sub(kept, path.read_text(encoding='utf-8'))
 
 
-def closing(text, at):
-    """Where the brace closes that opens at a place."""
+def closing(text, at, marks='{}'):
+    """Where the brace, or another mark, closes that opens at a place."""
     depth = 0
     for place in range(at, len(text)):
-        depth += {'{': 1, '}': -1}.get(text[place], 0)
+        depth += {marks[0]: 1, marks[1]: -1}.get(text[place], 0)
         if depth == 0:
             return place
     raise ValueError(f'a brace that nothing closes: {text[at:at + 60]!r}')
@@ -88,6 +88,13 @@ class Function:
     @property
     def crate(self):
         return self.name.split('::')[0]
+
+    def signature(self):
+        """Its own name with its parameters, and what it gives back, if it gives anything back; no parameters of types."""
+        name, rest = re.search(r'\bfn (\w+)(?:<.*?>(?=\())?(\(.*)', self.head).groups()
+        end = closing(rest, 0, '()')
+        result = re.match(r' -> (.+?)(?= requires\b| ensures\b|$)', rest[end + 1:])
+        return f'{name}({", ".join(parted(rest[1:end].rstrip(", "), ","))})', result and result.group(1)
 
     def asks(self):
         return [text for word, text in contracts(self.head) if word == 'requires']
