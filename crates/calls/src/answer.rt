@@ -4,7 +4,6 @@
 ghost use Rattle.std.specs.Prelude.{◌≡◌, ◌+◌, ◌≤◌, ◌<◌, length};
 
 use crate::{ANSWERED, FAILED};
-use libc::STDOUT_FILENO;
 
 // Where the text in the block ends, or that standard output failed on the way.
 #[derive(Drop)]
@@ -21,29 +20,25 @@ fn so_far(at: usize) -> Ended
 }
 
 // Writes some text; whether standard output took it. Where not, that has been said.
-fn write(text: &[u8]) -> bool {
-    if io::write_all(STDOUT_FILENO, text) {
-        return true;
-    }
-    os::fail(b"standard output");
-    false
+fn write(rt: &HostRuntime, text: &[u8]) -> bool {
+    streams::sent(rt, rt.write_all(text))
 }
 
 // Writes the text in the block, the last of an answer; how the request ended.
-pub(crate) fn send(block: &[u8], text: Ended) -> u8
+pub(crate) fn send(rt: &HostRuntime, block: &[u8], text: Ended) -> u8
     requires { text.at ≤ length block.now }
 {
     if text.failed {
         return FAILED;
     }
-    if write(&block[..text.at]) {
+    if write(rt, &block[..text.at]) {
         return ANSWERED;
     }
     FAILED
 }
 
 // Where 32 bytes more have room: a number, its sign and what stands after it are fewer.
-fn room(block: &[u8], at: usize) -> Ended
+fn room(rt: &HostRuntime, block: &[u8], at: usize) -> Ended
     requires { (32 ≤ length block.now) × (at ≤ length block.now) }
     ensures { result.at + 32 ≤ length block.now }
 {
@@ -51,7 +46,7 @@ fn room(block: &[u8], at: usize) -> Ended
         return so_far(at);
     }
     Ended {
-        failed: !write(&block[..at]),
+        failed: !write(rt, &block[..at]),
         at: 0,
     }
 }
@@ -64,11 +59,11 @@ fn store(block: &mut [u8], at: usize, b: u8)
 }
 
 // A number, and the byte `after` behind it.
-fn put(block: &mut [u8], at: usize, n: u64, after: u8) -> Ended
+fn put(rt: &HostRuntime, block: &mut [u8], at: usize, n: u64, after: u8) -> Ended
     requires { (32 ≤ length block.old) × (at ≤ length block.old) }
     ensures { result.at ≤ length block.old }
 {
-    let start = room(block, at);
+    let start = room(rt, block, at);
     if start.failed {
         return start;
     }
@@ -83,7 +78,7 @@ fn after(i: usize, n: usize) -> u8
 }
 
 // A letter and numbers after it, as a line at the block's start.
-pub(crate) fn line(block: &mut [u8], letter: u8, numbers: &[u64]) -> Ended
+pub(crate) fn line(rt: &HostRuntime, block: &mut [u8], letter: u8, numbers: &[u64]) -> Ended
     requires { 32 ≤ length block.old }
     ensures { result.at ≤ length block.old }
 {
@@ -92,7 +87,7 @@ pub(crate) fn line(block: &mut [u8], letter: u8, numbers: &[u64]) -> Ended
     let mut at = 2;
     let mut i = 0;
     while i < numbers.len() {
-        let text = put(block, at, numbers[i], after(i, numbers.len()));
+        let text = put(rt, block, at, numbers[i], after(i, numbers.len()));
         if text.failed {
             return text;
         }
@@ -103,17 +98,23 @@ pub(crate) fn line(block: &mut [u8], letter: u8, numbers: &[u64]) -> Ended
 }
 
 // A letter, a number and a signed number, as a line at the block's start.
-pub(crate) fn signed_line(block: &mut [u8], letter: u8, number: u64, v: i64) -> Ended
+pub(crate) fn signed_line(
+    rt: &HostRuntime,
+    block: &mut [u8],
+    letter: u8,
+    number: u64,
+    v: i64,
+) -> Ended
     requires { 32 ≤ length block.old }
     ensures { result.at ≤ length block.old }
 {
     store(block, 0, letter);
     store(block, 1, b' ');
-    let first = put(block, 2, number, b' ');
+    let first = put(rt, block, 2, number, b' ');
     if first.failed {
         return first;
     }
-    let start = room(block, first.at);
+    let start = room(rt, block, first.at);
     if start.failed {
         return start;
     }
@@ -121,11 +122,11 @@ pub(crate) fn signed_line(block: &mut [u8], letter: u8, number: u64, v: i64) -> 
 }
 
 // The end of a line of no elements.
-fn end(block: &mut [u8], at: usize) -> Ended
+fn end(rt: &HostRuntime, block: &mut [u8], at: usize) -> Ended
     requires { (32 ≤ length block.old) × (at ≤ length block.old) }
     ensures { result.at ≤ length block.old }
 {
-    let start = room(block, at);
+    let start = room(rt, block, at);
     if start.failed {
         return start;
     }
@@ -139,7 +140,7 @@ fn value_as_number(value: u16) -> u64 {
 }
 
 // The elements of a buffer of values, as a line behind the text that the block has.
-pub(crate) fn values(block: &mut [u8], text: Ended, s: &[u16]) -> Ended
+pub(crate) fn values(rt: &HostRuntime, block: &mut [u8], text: Ended, s: &[u16]) -> Ended
     requires { (32 ≤ length block.old) × (text.at ≤ length block.old) }
     ensures { result.at ≤ length block.old }
 {
@@ -147,12 +148,12 @@ pub(crate) fn values(block: &mut [u8], text: Ended, s: &[u16]) -> Ended
         return text;
     }
     if s.len() == 0 {
-        return end(block, text.at);
+        return end(rt, block, text.at);
     }
     let mut at = text.at;
     let mut i = 0;
     while i < s.len() {
-        let more = put(block, at, value_as_number(s[i]), after(i, s.len()));
+        let more = put(rt, block, at, value_as_number(s[i]), after(i, s.len()));
         if more.failed {
             return more;
         }
@@ -168,7 +169,7 @@ fn count_as_number(count: u32) -> u64 {
 }
 
 // The elements of a buffer of counts, likewise.
-pub(crate) fn counts(block: &mut [u8], text: Ended, s: &[u32]) -> Ended
+pub(crate) fn counts(rt: &HostRuntime, block: &mut [u8], text: Ended, s: &[u32]) -> Ended
     requires { (32 ≤ length block.old) × (text.at ≤ length block.old) }
     ensures { result.at ≤ length block.old }
 {
@@ -176,12 +177,12 @@ pub(crate) fn counts(block: &mut [u8], text: Ended, s: &[u32]) -> Ended
         return text;
     }
     if s.len() == 0 {
-        return end(block, text.at);
+        return end(rt, block, text.at);
     }
     let mut at = text.at;
     let mut i = 0;
     while i < s.len() {
-        let more = put(block, at, count_as_number(s[i]), after(i, s.len()));
+        let more = put(rt, block, at, count_as_number(s[i]), after(i, s.len()));
         if more.failed {
             return more;
         }
@@ -192,10 +193,10 @@ pub(crate) fn counts(block: &mut [u8], text: Ended, s: &[u32]) -> Ended
 }
 
 // The run's last line: some words and a number.
-pub(crate) fn last(block: &mut [u8], words: &[u8], n: u64) {
-    if write(words) {
+pub(crate) fn last(rt: &HostRuntime, block: &mut [u8], words: &[u8], n: u64) {
+    if write(rt, words) {
         let end = text::number(block, 0, n, b'\n');
         // nothing is written after it, so whether it was written changes nothing more
-        write(&block[..end]);
+        write(rt, &block[..end]);
     }
 }

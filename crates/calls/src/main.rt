@@ -28,6 +28,7 @@ const FAILED: u8 = 3;
 // A request by its letter, and how it ended. Each call reads its own arguments, into the spaces that
 // it needs, and writes its answer by way of the block.
 fn call(
+    rt: &HostRuntime,
     letter: u8,
     block: &mut [u8],
     levels: &mut [u8],
@@ -39,22 +40,23 @@ fn call(
     requires { 32 ≤ length block.old }
 {
     match letter {
-        b'f' => each::picture(letter, block, levels, one, two),
-        b'm' => each::picture(letter, block, levels, one, two),
-        b'b' => each::start(block, held),
-        b'r' => each::rows(block, held, levels, one),
-        b'z' => each::end(block, held, one),
-        b'j' => each::judge(block),
-        b'c' => each::count(block, one, counts),
-        b't' => each::two_means(block, counts),
-        b's' => each::sample(block, levels),
-        b'l' => each::length(block),
+        b'f' => each::picture(rt, letter, block, levels, one, two),
+        b'm' => each::picture(rt, letter, block, levels, one, two),
+        b'b' => each::start(rt, block, held),
+        b'r' => each::rows(rt, block, held, levels, one),
+        b'z' => each::end(rt, block, held, one),
+        b'j' => each::judge(rt, block),
+        b'c' => each::count(rt, block, one, counts),
+        b't' => each::two_means(rt, block, counts),
+        b's' => each::sample(rt, block, levels),
+        b'l' => each::length(rt, block),
         _ => BAD,
     }
 }
 
 // The next request, and how it ended.
 fn turn(
+    rt: &HostRuntime,
     block: &mut [u8],
     levels: &mut [u8],
     one: &mut [u16],
@@ -64,26 +66,27 @@ fn turn(
 ) -> u8
     requires { 32 ≤ length block.old }
 {
-    match request::beginning() {
-        Next::Letter(letter) => call(letter, block, levels, one, two, counts, held),
+    match request::beginning(rt) {
+        Next::Letter(letter) => call(rt, letter, block, levels, one, two, counts, held),
         Next::Nothing(how) => how,
     }
 }
 
 // The run's last line. There is none where standard input or output failed.
-fn finish(block: &mut [u8], how: u8, answered: u64) {
+fn finish(rt: &HostRuntime, block: &mut [u8], how: u8, answered: u64) {
     if how == NO_MORE {
-        answer::last(block, b"answered ", answered);
+        answer::last(rt, block, b"answered ", answered);
         return;
     }
     if how == BAD {
-        answer::last(block, b"bad request ", answered);
+        answer::last(rt, block, b"bad request ", answered);
     }
 }
 
 // Requests, one after the other. Nothing says that the input ends, so the count of them is what
 // ends the loop, at a number that no run reaches.
 fn serve(
+    rt: &HostRuntime,
     block: &mut [u8],
     levels: &mut [u8],
     one: &mut [u16],
@@ -95,9 +98,9 @@ fn serve(
 {
     let mut answered: u64 = 0;
     while answered < 18_446_744_073_709_551_615 {
-        let how = turn(block, levels, one, two, counts, held);
+        let how = turn(rt, block, levels, one, two, counts, held);
         if how != ANSWERED {
-            finish(block, how, answered);
+            finish(rt, block, how, answered);
             return;
         }
         answered += 1;
@@ -140,7 +143,7 @@ fn scan_space() -> [u16; 6_147]
 
 // The spaces are made once and lent, so that no request pays for clearing them: 5 MiB of the 8 that
 // a stack has.
-fn main() {
+fn main(rt: HostRuntime) {
     let mut block = io::large_buffer();
     let mut levels = level_space();
     let mut one = value_space();
@@ -148,6 +151,7 @@ fn main() {
     let mut counts = count_space();
     let mut held = scan_space();
     serve(
+        &rt,
         &mut block,
         &mut levels,
         &mut one,

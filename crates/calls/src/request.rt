@@ -25,9 +25,9 @@ pub struct Taken {
 }
 
 // The beginning of the next request.
-pub(crate) fn beginning() -> Next {
+pub(crate) fn beginning(rt: &HostRuntime) -> Next {
     let mut b = [0u8; 1];
-    let got = streams::read(&mut b);
+    let got = streams::read(&mut rt.stdin(), rt, &mut b);
     if got.failed {
         return Next::Nothing(FAILED);
     }
@@ -38,8 +38,8 @@ pub(crate) fn beginning() -> Next {
 }
 
 // Fills a space from the input; how that went.
-pub(crate) fn fill(space: &mut [u8]) -> u8 {
-    let got = streams::read(space);
+pub(crate) fn fill(rt: &HostRuntime, space: &mut [u8]) -> u8 {
+    let got = streams::read(&mut rt.stdin(), rt, space);
     if got.failed {
         return FAILED;
     }
@@ -70,11 +70,11 @@ fn up_to(n: u64, most: usize) -> Taken
 }
 
 // A length that a space of `most` has room for.
-fn size(most: usize) -> Taken
+fn size(rt: &HostRuntime, most: usize) -> Taken
     ensures { result.count ≤ most }
 {
     let mut b = [0u8; 8];
-    let how = fill(&mut b);
+    let how = fill(rt, &mut b);
     if how != ANSWERED {
         return nothing(how);
     }
@@ -82,22 +82,22 @@ fn size(most: usize) -> Taken
 }
 
 // Fills the first n places of a space from the input; how that went.
-fn exactly(space: &mut [u8], n: usize) -> u8
+fn exactly(rt: &HostRuntime, space: &mut [u8], n: usize) -> u8
     requires { n ≤ length space.old }
 {
-    fill(&mut space[..n])
+    fill(rt, &mut space[..n])
 }
 
 // A read-only slice of levels: a byte each.
-pub(crate) fn levels(space: &mut [u8]) -> Taken
+pub(crate) fn levels(rt: &HostRuntime, space: &mut [u8]) -> Taken
     ensures { IsPrefixLen result.count space.new }
 {
-    let t = size(space.len());
+    let t = size(rt, space.len());
     if t.how != ANSWERED {
         return nothing(t.how);
     }
     let n = t.count;
-    let how = exactly(space, n);
+    let how = exactly(rt, space, n);
     if how != ANSWERED {
         return nothing(how);
     }
@@ -118,13 +118,13 @@ fn join_pairs(b: &[u8], space: &mut [u16], at: usize, k: usize)
 }
 
 // The first n elements of a space, by way of a block of bytes; how that went.
-fn pairs(b: &mut [u8], space: &mut [u16], n: usize) -> u8
+fn pairs(rt: &HostRuntime, b: &mut [u8], space: &mut [u16], n: usize) -> u8
     requires { (n ≤ length space.old) × (2 ≤ length b.old) }
 {
     let mut at = 0;
     while at < n {
         let k = smaller(n - at, b.len() / 2);
-        let how = exactly(b, 2 * k);
+        let how = exactly(rt, b, 2 * k);
         if how != ANSWERED {
             return how;
         }
@@ -135,16 +135,16 @@ fn pairs(b: &mut [u8], space: &mut [u16], n: usize) -> u8
 }
 
 // A read-only slice of values: two bytes each.
-pub(crate) fn values(space: &mut [u16]) -> Taken
+pub(crate) fn values(rt: &HostRuntime, space: &mut [u16]) -> Taken
     ensures { IsPrefixLen result.count space.new }
 {
-    let t = size(space.len());
+    let t = size(rt, space.len());
     if t.how != ANSWERED {
         return nothing(t.how);
     }
     let n = t.count;
     let mut b = io::large_buffer();
-    let how = pairs(&mut b, space, n);
+    let how = pairs(rt, &mut b, space, n);
     if how != ANSWERED {
         return nothing(how);
     }
@@ -165,28 +165,28 @@ fn join_fours(b: &[u8], space: &mut [u32], n: usize)
 }
 
 // The first n elements of a space, by way of a block that has room for them all; how that went.
-fn fours(b: &mut [u8], space: &mut [u32], n: usize) -> u8
+fn fours(rt: &HostRuntime, b: &mut [u8], space: &mut [u32], n: usize) -> u8
     requires { n ≤ length space.old }
 {
     if b.len() / 4 < n {
         return BAD;
     }
-    let how = exactly(b, 4 * n);
+    let how = exactly(rt, b, 4 * n);
     join_fours(b, space, n);
     how
 }
 
 // A read-only slice of counts: four bytes each. 4,096 of them have room in the block.
-pub(crate) fn counts(space: &mut [u32]) -> Taken
+pub(crate) fn counts(rt: &HostRuntime, space: &mut [u32]) -> Taken
     ensures { IsPrefixLen result.count space.new }
 {
-    let t = size(space.len());
+    let t = size(rt, space.len());
     if t.how != ANSWERED {
         return nothing(t.how);
     }
     let n = t.count;
     let mut b = io::large_buffer();
-    let how = fours(&mut b, space, n);
+    let how = fours(rt, &mut b, space, n);
     if how != ANSWERED {
         return nothing(how);
     }
@@ -216,11 +216,11 @@ fn lent_values(b: &[u8; 16], space: &mut [u16]) -> Taken
 }
 
 // The same, with its bytes read from the input.
-pub(crate) fn value_buffer(space: &mut [u16]) -> Taken
+pub(crate) fn value_buffer(rt: &HostRuntime, space: &mut [u16]) -> Taken
     ensures { IsPrefixLen result.count space.new }
 {
     let mut b = [0u8; 16];
-    let how = fill(&mut b);
+    let how = fill(rt, &mut b);
     if how != ANSWERED {
         return nothing(how);
     }
@@ -248,11 +248,11 @@ fn lent_counts(b: &[u8; 16], space: &mut [u32]) -> Taken
     t
 }
 
-pub(crate) fn count_buffer(space: &mut [u32]) -> Taken
+pub(crate) fn count_buffer(rt: &HostRuntime, space: &mut [u32]) -> Taken
     ensures { IsPrefixLen result.count space.new }
 {
     let mut b = [0u8; 16];
-    let how = fill(&mut b);
+    let how = fill(rt, &mut b);
     if how != ANSWERED {
         return nothing(how);
     }

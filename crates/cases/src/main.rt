@@ -3,38 +3,28 @@
 // them.) A line is what the judge is given, N, M, m and D, and what comes back, the number and q.
 #![tactic(auto)]
 
-use libc::STDOUT_FILENO;
 use units::Eighths;
 
-// A number, and what stands after it. Whether they were written is not asked: the output is compared with
-// what it must be, and a part that is missing shows there.
-fn put(n: u64, after: &[u8]) {
-    io::print_decimal(STDOUT_FILENO, n);
-    io::write_all(STDOUT_FILENO, after);
-}
-
-// One case, as a line.
-fn judged(count: u64, bright: u64, dark: u64, spread: u64) {
+// One case, as a line. Whether it was written is not asked: the output is compared with what it must
+// be, and a part that is missing shows there.
+fn judged<P: Print>(rt: &P, count: u64, bright: u64, dark: u64, spread: u64) {
     let verdict = judge::judge(count, Eighths::of(bright), Eighths::of(dark), spread);
-    put(count, b" ");
-    put(bright, b" ");
-    put(dark, b" ");
-    put(spread, b" ");
-    put(verdict.number as u64, b" ");
-    put(verdict.ratio, b"\n");
+    let number = verdict.number;
+    let ratio = verdict.ratio;
+    let _ = println!(rt; "{count} {bright} {dark} {spread} {number} {ratio}");
 }
 
-fn main() {
+fn main(rt: HostRuntime) {
     // "m = 7,392, D = 655,360,000 gives 0 and 1,000; D one more gives 9 and 999"
-    judged(256, 25_600, 7_392, 655_360_001);
+    judged(&rt, 256, 25_600, 7_392, 655_360_001);
     // "M = 21,759 or 31,361 is 6; 21,760 and 31,360 are not"
-    judged(256, 21_759, 6_400, 419_430_400);
-    judged(256, 31_361, 6_400, 419_430_400);
-    judged(256, 21_760, 6_400, 419_430_400);
-    judged(256, 31_360, 6_400, 419_430_400);
+    judged(&rt, 256, 21_759, 6_400, 419_430_400);
+    judged(&rt, 256, 31_361, 6_400, 419_430_400);
+    judged(&rt, 256, 21_760, 6_400, 419_430_400);
+    judged(&rt, 256, 31_360, 6_400, 419_430_400);
     // "m = 1,279 or 10,241 is 7; 1,280 and 10,240 are not"
-    judged(256, 25_600, 1_279, 419_430_400);
-    judged(256, 25_600, 10_241, 419_430_400);
-    judged(256, 25_600, 1_280, 419_430_400);
-    judged(256, 25_600, 10_240, 419_430_400);
+    judged(&rt, 256, 25_600, 1_279, 419_430_400);
+    judged(&rt, 256, 25_600, 10_241, 419_430_400);
+    judged(&rt, 256, 25_600, 1_280, 419_430_400);
+    judged(&rt, 256, 25_600, 10_240, 419_430_400);
 }

@@ -22,7 +22,7 @@ enum Outcome {
 }
 
 // The records, one after the other: each begins where the one before it ends.
-fn report(input: &[u8]) -> Outcome
+fn report<P: Print + Eprint>(rt: &P, input: &[u8]) -> Outcome
     ensures { OutcomeIs input.now result }
 {
     let mut at = 0;
@@ -30,7 +30,7 @@ fn report(input: &[u8]) -> Outcome
     loop {
         match look::look(input, at) {
             Found::Good { said, next } => {
-                if !print::line(said) {
+                if !print::line(rt, said) {
                     return Outcome::Unwritten;
                 }
                 at = next;
@@ -53,19 +53,19 @@ fn input_space() -> [u8; 32_769]
 // The whole input is read before anything is printed: one that is too long gives a single line, and
 // one that cannot be read to its end gives none. What could not be read or written has been said on
 // standard error by then.
-fn main() {
+fn main(rt: HostRuntime) {
     let mut space = input_space();
-    let got = streams::read(&mut space);
+    let got = streams::read(&mut rt.stdin(), &rt, &mut space);
     if got.failed {
         return;
     }
     // the last line is the last thing done: whether it was written changes nothing more
-    match report(&space[..got.count]) {
+    match report(&rt, &space[..got.count]) {
         Outcome::Whole { good } => {
-            print::records(good);
+            print::records(&rt, good);
         }
         Outcome::Faulty { number, offset } => {
-            print::bad(number, offset);
+            print::bad(&rt, number, offset);
         }
         Outcome::Unwritten => {}
     }
