@@ -26,7 +26,8 @@ use Rattle.judge.proofs.Examples.{holds as judge_holds, row as judge_row}
 -- with buffers that are long enough, whatever the promise of measuring permits has this verdict
 abbrev pub Measures : ℕ → ℕ → List ℕ → Verdict → Type 0
 Measures w h levels v =
-    (output work : List ℕ) → w * h ≤ length output → w * h ≤ length work → (r : Measurement) → MeasureIs levels w h output work r → r.verdict ≡ v
+    (output work : List ℕ) → w * h ≤ length output → w * h ≤ length work → (r : Measurement)
+    → MeasureIs levels w h output work r → r.verdict ≡ v
 
 -- whatever the judge's promise permits of the picture's own numbers is this verdict
 abbrev pub Judges : ℕ → ℕ → List ℕ → List ℕ → Verdict → Type 0
@@ -38,15 +39,21 @@ abbrev pub Good : ℕ → ℕ → ℕ → Type 0
 Good levels w h = ((MeasurableSide w × MeasurableSide h) × ((w ≤ 1024) × (h ≤ 1024))) × (levels ≡ w * h)
 
 -- it has the judge's verdict on what it is filtered to
-pub measures : (w h : ℕ) (levels filtered : List ℕ) (v : Verdict) → Good (length levels) w h → pass_three w h levels ≡ filtered → Judges w h levels filtered v
-    → Measures w h levels v
+pub measures : (w h : ℕ) (levels filtered : List ℕ) (v : Verdict) → Good (length levels) w h → pass_three w h levels ≡ filtered
+    → Judges w h levels filtered v → Measures w h levels v
 measures w h levels filtered v good three only output work long_output long_work r is =
-    only r.verdict (subst (λ (D : ℕ). JudgeIs (inner_pixels w h) (bright w h filtered) (dark w h filtered) D r.verdict) (ap nat_of judged.spread_is) judged.verdict_is)
+    only r.verdict
+    (subst (λ (D : ℕ). JudgeIs (inner_pixels w h) (bright w h filtered) (dark w h filtered) D r.verdict) (ap nat_of judged.spread_is)
+    judged.verdict_is)
   where
     fits : Fits (length levels) w h (length output) (length work)
     fits =
         let sides = good.0 in
-        record { shape = record { sides = ((omega arith, omega arith), (omega arith, omega arith)); all_levels = good.1 }; long_output = long_output; long_work = long_work }
+        record {
+          shape = record { sides = ((omega arith, omega arith), (omega arith, omega arith)); all_levels = good.1 };
+          long_output = long_output;
+          long_work = long_work;
+        }
 
     judged : Judged levels filtered w h r.verdict
     judged = subst (λ (x : List ℕ). Judged levels x w h r.verdict) three (when_measured levels w h output work r fits good.0.0 is).judged
@@ -61,11 +68,14 @@ good levels w h =
 
 judges : (w h : ℕ) (levels filtered : List ℕ) (n q : ℕ) → Option (Judges w h levels filtered (verdict n q))
 judges w h levels filtered n q =
-    judge_holds (judge_row (inner_pixels w h) (over_tiles maximum w h filtered) (over_tiles minimum w h filtered) (nat_of (spread_of w h levels filtered)) n q)
+    judge_holds
+    (judge_row (inner_pixels w h) (over_tiles maximum w h filtered) (over_tiles minimum w h filtered) (nat_of (spread_of w h levels filtered))
+    n q)
 
 -- a picture and its eighths, then the number and q
 unfoldable pub holds : (w h : ℕ) (levels filtered : List ℕ) (n q : ℕ) → Option (Measures w h levels (verdict n q))
-unfolding dec_le ℕ_discrete Dec.and when good judges joined sum maximum minimum tile over_tiles sumℤ sum_overℤ sum_inner spread_of three_holds judge_holds
+unfolding dec_le ℕ_discrete Dec.and when good judges joined sum maximum minimum tile over_tiles
+    sumℤ sum_overℤ sum_inner spread_of three_holds judge_holds
 holds w h levels filtered n q = elim (when (good (length levels) w h)) [
   | some p ↦ elim (three_holds (filter_row w h levels filtered)) [
     | some three ↦ map (measures w h levels filtered (verdict n q) p three) (judges w h levels filtered n q)

@@ -46,7 +46,9 @@ slope_filtered = get (three_holds (filter_row 12 12 slope slope_eighths)) tt
 -- so every pixel that counts is as it was
 pub slope_kept : (k : ℕ) → k < 144 → counts 12 12 k ≡ true → 8 * get_or slope k 0 ≡ get_or slope_eighths k 0
 unfolding joined
-slope_kept k less in-it = eqb→eq _ _ (rw in-it at (each (λ k. not (counts 12 12 k) || eqb (8 * get_or slope k 0) (get_or slope_eighths k 0)) 144 tt k less))
+slope_kept k less in-it =
+    eqb→eq _ _
+    (rw in-it at (each (λ k. not (counts 12 12 k) || eqb (8 * get_or slope k 0) (get_or slope_eighths k 0)) 144 tt k less))
 
 -- no noise; but with the rim there was some
 pub slope_quiet : spread_of 12 12 slope slope_eighths ≡ pos 0

@@ -33,11 +33,15 @@ nothing_came part space r is failed =
 pub told_failed : (answer : ℤ) (space : List ℕ) → lt_z answer (pos 0) ≡ true → Told answer space (record { failed = true; count = 0 })
 told_failed (pos n) space negative = let no : n < 0 = ltb-true n 0 negative in absurd (let z : ⊥ = omega arith in z)
 told_failed (negsuc n) space negative =
-    record { received = record { counts = prefix_len_of_le 0 space (omega arith); none = λ failed. refl }; failed_is = refl; count_is = refl }
+    record {
+      received = record { counts = prefix_len_of_le 0 space (omega arith); none = λ failed. refl };
+      failed_is = refl;
+      count_is = refl;
+    }
 
 -- and one that is not
-pub told_count : (answer : ℤ) (space : List ℕ) (n : ℕ) → lt_z answer (pos 0) ≡ false → n ≤ length space → n ≡ clamp_len answer (length space)
-    → Told answer space (record { failed = false; count = n })
+pub told_count : (answer : ℤ) (space : List ℕ) (n : ℕ) → lt_z answer (pos 0) ≡ false → n ≤ length space
+    → n ≡ clamp_len answer (length space) → Told answer space (record { failed = false; count = n })
 told_count answer space n not_negative inside is =
     record { received = came space n inside; failed_is = sym not_negative; count_is = is }
 

@@ -1,5 +1,6 @@
 -- Texts put into a block: digits, a sign before them, a byte after them. Assumes nothing.
-use Rattle.std.proofs.Common.{◌≡◌, ℕ, suc, ◌+◌, ◌^◌, ◌<◌, ◌≤◌, true, false, List, [], ◌∷◌, length, get_or, take, set, ℤ, pos, negsuc, nat_abs, refl, ap, ◌∙◌, subst, true≢false, arith, lit≤, ltb-true}
+use Rattle.std.proofs.Common.{◌≡◌, ℕ, suc, ◌+◌, ◌^◌, ◌<◌, ◌≤◌, true, false, List, [], ◌∷◌, length, get_or, take, set}
+use Rattle.std.proofs.Common.{ℤ, pos, negsuc, nat_abs, refl, ap, ◌∙◌, subst, true≢false, arith, lit≤, ltb-true}
 use lib.Signed.{lt_z}
 use Rattle.io.specs.Counts.{IsPrefixLen}
 use Rattle.io.specs.Digits.{last_digits, IsDigitCount}
@@ -23,8 +24,8 @@ digit_put before at n small room =
     }
 
 -- digits that io spelled, copied
-pub digits_put : (before out after : List ℕ) (at n k : ℕ) → n < 2 ^ 64 → IsPrefixLen k out → IsDigitCount 10 1 n k → take k out ≡ last_digits 10 k n
-    → after ≡ over before at (listed k (λ i. get_or out i 0)) → Digits (Spelled n) 20 before at (block (at + k) after)
+pub digits_put : (before out after : List ℕ) (at n k : ℕ) → n < 2 ^ 64 → IsPrefixLen k out → IsDigitCount 10 1 n k
+    → take k out ≡ last_digits 10 k n → after ≡ over before at (listed k (λ i. get_or out i 0)) → Digits (Spelled n) 20 before at (block (at + k) after)
 digits_put before out after at n k small counts fewest is copied =
     record {
       text = take k out;
@@ -52,8 +53,8 @@ sign_put before at m (negsuc n) r room negative is d =
     }
 
 -- the digits of a number that is not below 0
-pub no_sign_put : (before : List ℕ) (at m : ℕ) (v : ℤ) (r : Block) → lt_z v (pos 0) ≡ false → m ≡ nat_of v → Digits (Spelled m) 20 before at r
-    → Digits (SpelledSigned v) 21 before at r
+pub no_sign_put : (before : List ℕ) (at m : ℕ) (v : ℤ) (r : Block) → lt_z v (pos 0) ≡ false → m ≡ nat_of v
+    → Digits (Spelled m) 20 before at r → Digits (SpelledSigned v) 21 before at r
 no_sign_put before at m (negsuc n) r not_negative is d = absurd (true≢false not_negative)
 no_sign_put before at m (pos n) r not_negative is d =
     record { text = d.text; says = subst (λ (x : ℕ). Spelled x d.text) is d.says; short = omega (arith, d.short); put = d.put }

@@ -1,5 +1,6 @@
 -- Laws of numbers as text: what io spells, one digit, how many digits there are; and that a number has one text. Assumes nothing.
-use Rattle.std.proofs.Common.{◌≡◌, ℕ, suc, ◌+◌, ◌-◌, ◌%◌, ◌^◌, ◌<◌, ◌≤◌, List, [], ◌∷◌, length, take, ℤ, pos, negsuc, sym, refl, ap, ◌∙◌, le_trans, le_refl, not-le_of_lt, arith, lit<, lit≤, lt-ltb}
+use Rattle.std.proofs.Common.{◌≡◌, ℕ, suc, ◌+◌, ◌-◌, ◌%◌, ◌^◌, ◌<◌, ◌≤◌, List, [], ◌∷◌, length, take, ℤ, pos, negsuc}
+use Rattle.std.proofs.Common.{sym, refl, ap, ◌∙◌, le_trans, le_refl, not-le_of_lt, arith, lit<, lit≤, lt-ltb}
 use native.Mathlib.Nat.{pow-le-pow_right}
 use native.Mathlib.Decide.{dec_lt}
 use Rattle.io.specs.Counts.{IsPrefixLen}
@@ -7,7 +8,8 @@ use Rattle.io.specs.Digits.{last_digits, IsDigitCount}
 use Rattle.text.specs.Text.{Spelled, SpelledSigned}
 
 -- what io has spelled at the start of a list
-pub spelled : (out : List ℕ) (n k : ℕ) → IsPrefixLen k out → IsDigitCount 10 1 n k → take k out ≡ last_digits 10 k n → Spelled n (take k out)
+pub spelled : (out : List ℕ) (n k : ℕ) → IsPrefixLen k out → IsDigitCount 10 1 n k → take k out ≡ last_digits 10 k n
+    → Spelled n (take k out)
 spelled out n k counts fewest is = record { fewest = rw (sym counts.1) fewest; digits_are = rw (sym counts.1) is }
 
 -- a number below 10 has one digit

@@ -4,4 +4,8 @@ use Rattle.calls.proofs.request.lent_counts.Goals as goal
 
 pub returns : goal.returns
 returns c =
-    lent 4294967296 c.args.b.now c.args.space.now _ c.up_to-t.result _ _ c.number.ensures c.number-2.ensures c.up_to-t.ensures c.set_counts.ensures
+    lent 4294967296 c.args.b.now c.args.space.now _ c.up_to-t.result _ _
+    c.number.ensures
+    c.number-2.ensures
+    c.up_to-t.ensures
+    c.set_counts.ensures
