@@ -1,3 +1,4 @@
+-- the sizes decide the number, and past them the three passes fill both buffers (`done`).
 use native.Mathlib.Omega.{arith}
 use Rattle.filter.proofs.Outcomes.{fits, done}
 use Rattle.filter.proofs.filter.Goals as goal

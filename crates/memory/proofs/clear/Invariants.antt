@@ -8,7 +8,8 @@ use Rattle.memory.proofs.clear.Given as goal
 
 abbrev pub invariant-loop-i : goal.invariant-loop-i
 invariant-loop-i l =
-    (l.i ≤ length l.part) × (length l.part ≡ length l.initial.part) × Written (λ v. get_or (zeros (length l.initial.part)) v 0) (length l.initial.part) l.part l.i
+    (l.i ≤ length l.part) × (length l.part ≡ length l.initial.part)
+    × Written (λ v. get_or (zeros (length l.initial.part)) v 0) (length l.initial.part) l.part l.i
 
 abbrev pub decreases-loop-i : goal.decreases-loop-i
 decreases-loop-i l = length l.part - l.i

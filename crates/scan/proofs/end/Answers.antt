@@ -1,3 +1,4 @@
+-- past the tests all three rows come that are not there.
 use mathlib.Core.Path.{refl}
 use mathlib.Core.Bool.{not}
 use mathlib.Core.List.{◌++◌}
@@ -42,5 +43,6 @@ returns c =
     let lent_long = same_len_mid 3 6144 held c.take_rows.new.rows c.take_rows.auto.rows in
     let anew = when_starts lent w h _ _ (omega (arith, lent_long, begun.long)) begun.width begun.height c.start.ensures in
     let left = ap (λ (m : List ℕ). set m 2 (h + 3)) anew ∙ count_again w h 0 (h + 3) (zeros 6144) (drop 6147 lent) in
-    end_done held begun last c.args.output.now room c.take_rows.new.rows _ _ _ (c.take_rows.auto.rows ∙ length_rows held begun.long) due left
+    end_done held begun last c.args.output.now room c.take_rows.new.rows _ _ _
+    (c.take_rows.auto.rows ∙ length_rows held begun.long) due left
     c.take_rows.ensures.output_after

@@ -23,7 +23,9 @@ take_rows-requires c =
     let whole : length levels % width_of held ≡ 0 = omega arith in
     let within : length levels / width_of held ≤ height_of held - came_of held = omega (arith, c.less.ensures) in
     let due_is = less_of c.less-2.ensures c.less-3.ensures in
-    let room : due (came_of held) (length levels / width_of held) * width_of held ≤ length c.args.output.now = rw (← due_is) (omega arith) in
+    let room : due (came_of held) (length levels / width_of held) * width_of held ≤ length c.args.output.now =
+    rw (← due_is) (omega arith)
+    in
     (is_ready held begun few, is_coming held begun levels c.args.output.now bytes few whole within room)
 
 pub returns : goal.returns
@@ -36,6 +38,8 @@ returns c =
     let whole : length levels % width_of held ≡ 0 = omega arith in
     let within : length levels / width_of held ≤ height_of held - came_of held = omega (arith, c.less.ensures) in
     let due_is = less_of c.less-2.ensures c.less-3.ensures in
-    let room : due (came_of held) (length levels / width_of held) * width_of held ≤ length c.args.output.now = rw (← due_is) (omega arith) in
+    let room : due (came_of held) (length levels / width_of held) * width_of held ≤ length c.args.output.now =
+    rw (← due_is) (omega arith)
+    in
     rows_done held begun levels c.args.output.now bytes few whole within c.take_rows.new.rows _ _ room due_is c.take_rows.ensures.rows_after
     c.take_rows.ensures.output_after

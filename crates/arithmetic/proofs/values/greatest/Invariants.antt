@@ -1,3 +1,4 @@
+-- after i values it has the greatest so far.
 use Rattle.std.proofs.Common.{length, ◌-◌, ◌≤◌}
 use Rattle.arithmetic.proofs.Most.{Most}
 use Rattle.arithmetic.proofs.values.greatest.Given as goal

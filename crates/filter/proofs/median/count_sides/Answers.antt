@@ -13,7 +13,8 @@ overflow_add-below c =
 
 pub one_below-above-requires : goal.one_below-above-requires
 one_below-above-requires c =
-    (c.requires.from_le_end.4, omega (arith, c.requires.from_le_end.3 c.loop-k.k, get_or-take c.args.end c.args.t.now c.loop-k.k 0 (omega arith)))
+    let here = get_or-take c.args.end c.args.t.now c.loop-k.k 0 (omega arith) in
+    (c.requires.from_le_end.4, omega (arith, c.requires.from_le_end.3 c.loop-k.k, here))
 
 pub overflow_add-above : goal.overflow_add-above
 overflow_add-above c =

@@ -15,7 +15,10 @@ loop-k-init c =
 pub loop-k-preserved : goal.loop-k-preserved
 loop-k-preserved c =
     let ranks = c.middle_ranks-ranks.ensures in
-    let more = middles_more c.args.t.now c.args.n (one_to_nine c.requires.0).0 c.requires.1 c.loop-k.k _ _ _ _ _ _ _ _ _ (omega arith) refl in
+    let more =
+    middles_more c.args.t.now c.args.n (one_to_nine c.requires.0).0 c.requires.1 c.loop-k.k _ _ _ _ _ _ _ _ _
+    (omega arith) refl
+    in
     (omega arith, omega arith, more c.others-sides.ensures ranks.0 ranks.1 c.found-lower.ensures c.found-upper.ensures c.loop-k.invariant.2)
 
 pub overflow_add-result : goal.overflow_add-result

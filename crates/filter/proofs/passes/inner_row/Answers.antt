@@ -1,3 +1,4 @@
+-- the three rows that it lends are those around row j (`inner_is`).
 use Rattle.std.proofs.Common.{◌+◌, ◌*◌, ◌≤◌, ◌<◌, length, ℕ, List}
 use Rattle.filter.specs.Asked.{Picture}
 use Prim.Native.Nat.{suc}

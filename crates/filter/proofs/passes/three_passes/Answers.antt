@@ -1,3 +1,4 @@
+-- what each pass is given is a picture, small enough to be doubled.
 use Rattle.std.specs.Prelude.{ℕ, List, ◌≡◌}
 use Rattle.filter.specs.Filter.{pass_one, pass_two, pass_three}
 use Rattle.filter.specs.Median.{pass}
@@ -29,7 +30,8 @@ one_pass-requires-2 c =
     let small : AtMost 255 levels = λ k. omega (arith, c.type_inv.levels k) in
     let is = one_is w h levels _ _ c.widen.ensures c.one_pass.ensures in
     let long = c.widen.auto.out ∙ c.requires.levels_len.2 in
-    (picture_of 510 w h _ _ c.requires.side (c.one_pass.auto.out ∙ c.requires.levels_len.1) is (most_pass_one w h levels small) (lit≤ tt), long)
+    let output_long = c.one_pass.auto.out ∙ c.requires.levels_len.1 in
+    (picture_of 510 w h _ _ c.requires.side output_long is (most_pass_one w h levels small) (lit≤ tt), long)
 
 pub one_pass-requires-3 : goal.one_pass-requires-3
 one_pass-requires-3 c =

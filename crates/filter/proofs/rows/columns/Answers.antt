@@ -15,7 +15,8 @@ loop-i-preserved c =
     let row = row_of c.args.above.now c.args.here.now c.args.below.now in
     let n = length c.args.here.now in
     let cell =
-    cell_of_three i (i - 1) 3 n v (omega arith) (omega arith, omega arith) c.args.above.now c.args.here.now c.args.below.now rows.0.0 refl rows.2.0
+    cell_of_three i (i - 1) 3 n v (omega arith) (omega arith, omega arith) c.args.above.now c.args.here.now
+    c.args.below.now rows.0.0 refl rows.2.0
     c.of_three.ensures
     in
     next_stored row n (length_row c.args.above.now c.args.here.now c.args.below.now) c.loop-i.out c.loop-i.invariant.2 v _ i (omega arith)

@@ -1,3 +1,4 @@
+-- each store is a cell of the row (`cell_is`), and `Stored` says how many are there.
 use Rattle.std.proofs.Common.{◌≡◌, [], ◌<◌, length, ℕ, ◌+◌, ◌-◌, List}
 use Rattle.filter.specs.Median.{row_of}
 use mathlib.Core.Path.{refl, ◌∙◌}
@@ -26,7 +27,10 @@ loop-i-init c =
     let here = c.args.here.now in
     let v = c.of_one-2.result in
     let cell = cell_is here 0 0 2 v (omega arith) (omega arith, omega arith) c.of_one-2.ensures in
-    let there = first_stored (row_of [] here []) _ (length_row [] here []) c.args.out.now c.requires.out_len.0 v c.requires.out_len.1 cell in
+    let there =
+    first_stored (row_of [] here []) _ (length_row [] here []) c.args.out.now c.requires.out_len.0 v
+    c.requires.out_len.1 cell
+    in
     (omega arith, omega arith, length-set c.args.out.now 0 v ∙ c.requires.out_len.0, there)
 
 pub loop-i-preserved : goal.loop-i-preserved
@@ -35,7 +39,8 @@ loop-i-preserved c =
     let l = c.loop-i in
     let v = c.of_one-in-loop-i.result in
     let cell = cell_is here l.i (l.i - 1) 3 v (omega arith) (omega arith, omega arith) c.of_one-in-loop-i.ensures in
-    next_stored (row_of [] here []) _ (length_row [] here []) l.out l.invariant.2 v _ l.i (omega arith) (omega arith) cell l.invariant.0 l.invariant.3
+    next_stored (row_of [] here []) _ (length_row [] here []) l.out l.invariant.2 v _ l.i (omega arith) (omega arith) cell
+    l.invariant.0 l.invariant.3
 
 pub returns : goal.returns
 returns c =

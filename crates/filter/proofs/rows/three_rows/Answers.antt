@@ -1,3 +1,4 @@
+-- the first column is there, then the inner ones, then the last.
 use Rattle.std.proofs.Common.{◌≡◌, ◌<◌, length, ℕ, ◌+◌, ◌-◌, List, ◌++◌}
 use Rattle.filter.specs.Median.{row_of}
 use mathlib.Core.Path.{refl, ◌∙◌}
@@ -21,7 +22,10 @@ returns-then-last-eq0 c =
     let here = c.args.here.now in
     let rows = c.requires.row in
     let v = c.of_three.result in
-    let cell = cell_is c.args.above.now here c.args.below.now 0 0 1 v rows.0.0 rows.2.0 (omega arith) (omega arith, omega arith) c.of_three.ensures in
+    let cell =
+    cell_is c.args.above.now here c.args.below.now 0 0 1 v rows.0.0 rows.2.0 (omega arith) (omega arith, omega arith)
+    c.of_three.ensures
+    in
     last_stored (row_of c.args.above.now here c.args.below.now) _ (length_row c.args.above.now here c.args.below.now) c.args.out.now
     c.requires.out_len.0 v 0 (omega arith) cell refl
 
@@ -30,7 +34,10 @@ inner_columns-requires-clause-out_len c =
     let here = c.args.here.now in
     let rows = c.requires.row in
     let v = c.of_three-2.result in
-    let cell = cell_is c.args.above.now here c.args.below.now 0 0 2 v rows.0.0 rows.2.0 (omega arith) (omega arith, omega arith) c.of_three-2.ensures in
+    let cell =
+    cell_is c.args.above.now here c.args.below.now 0 0 2 v rows.0.0 rows.2.0 (omega arith) (omega arith, omega arith)
+    c.of_three-2.ensures
+    in
     let there =
     first_stored (row_of c.args.above.now here c.args.below.now) _ (length_row c.args.above.now here c.args.below.now) c.args.out.now
     c.requires.out_len.0 v c.requires.out_len.1 cell
@@ -47,7 +54,9 @@ returns c =
     let some = c.requires.out_len.1 in
     let v = c.of_three-3.result in
     let cell =
-    cell_is c.args.above.now here c.args.below.now last (last - 1) 2 v rows.0.0 rows.2.0 (omega arith) (omega arith, omega arith) c.of_three-3.ensures
+    cell_is c.args.above.now here c.args.below.now last (last - 1) 2 v rows.0.0 rows.2.0 (omega arith)
+    (omega arith, omega arith) c.of_three-3.ensures
     in
-    last_stored (row_of c.args.above.now here c.args.below.now) _ (length_row c.args.above.now here c.args.below.now) inner inner_long v last
+    last_stored (row_of c.args.above.now here c.args.below.now) _ (length_row c.args.above.now here c.args.below.now)
+    inner inner_long v last
     (omega arith) cell c.inner_columns.ensures

@@ -1,3 +1,4 @@
+-- each store is a cell of the row (`cell_is`), and `Stored` says how many are there.
 use Rattle.std.proofs.Common.{◌≡◌, [], ◌<◌, length, ℕ, ◌+◌, ◌-◌, List, ◌++◌}
 use Rattle.filter.specs.Median.{row_of}
 use mathlib.Core.Path.{refl, ◌∙◌}
@@ -42,7 +43,8 @@ loop-i-preserved c =
     let cell =
     cell_is upper lower l.i (l.i - 1) 3 v c.requires.row.1.0 (omega arith) (omega arith, omega arith) c.of_two-in-loop-i.ensures
     in
-    next_stored (row_of [] upper lower) _ (length_row [] upper lower) l.out l.invariant.2 v _ l.i (omega arith) (omega arith) cell l.invariant.0
+    next_stored (row_of [] upper lower) _ (length_row [] upper lower) l.out l.invariant.2 v _ l.i (omega arith)
+    (omega arith) cell l.invariant.0
     l.invariant.3
 
 pub returns : goal.returns
@@ -54,4 +56,5 @@ returns c =
     let v = c.of_two-3.result in
     let end : l.i ≡ last = omega arith in
     let cell = cell_is upper lower last (last - 1) 2 v c.requires.row.1.0 (omega arith) (omega arith, omega arith) c.of_two-3.ensures in
-    last_stored (row_of [] upper lower) _ (length_row [] upper lower) l.out l.invariant.2 v last (omega arith) cell (rw end at l.invariant.3)
+    last_stored (row_of [] upper lower) _ (length_row [] upper lower) l.out l.invariant.2 v last (omega arith) cell
+    (rw end at l.invariant.3)

@@ -13,7 +13,8 @@ loop-j-preserved c =
     let o = c.loop-j in
     let ends = c.row_ends-ends.ensures in (
       omega arith,
-      rows_more c.args.width c.args.columns c.args.start c.args.filtered.now o.most o.least o.at o.j c.larger-most.result c.smaller-least.result o.invariant.1
+      rows_more c.args.width c.args.columns c.args.start c.args.filtered.now o.most o.least o.at o.j c.larger-most.result
+          c.smaller-least.result o.invariant.1
           (c.larger-most.ensures ∙ ap (max o.most) ends.0) (c.smaller-least.ensures ∙ ap (min o.least) ends.1),
     )
 

@@ -11,7 +11,8 @@ loop-k-init c = (omega arith, sums_none (light c.args.levels.now) (flat c.args.f
 pub overflow_add-squares : goal.overflow_add-squares
 overflow_add-squares c =
     let more =
-    sums_more (light c.args.levels.now) (flat c.args.filtered.now) (c.requires.small c.loop-k.k) c.eight_times-light.ensures c.apart16-gap.ensures
+    sums_more (light c.args.levels.now) (flat c.args.filtered.now) (c.requires.small c.loop-k.k)
+    c.eight_times-light.ensures c.apart16-gap.ensures
     c.loop-k.invariant.1
     in
     omega (arith, more.squares_most)
@@ -19,6 +20,7 @@ overflow_add-squares c =
 pub loop-k-preserved : goal.loop-k-preserved
 loop-k-preserved c = (
   omega arith,
-  sums_more (light c.args.levels.now) (flat c.args.filtered.now) (c.requires.small c.loop-k.k) c.eight_times-light.ensures c.apart16-gap.ensures
+  sums_more (light c.args.levels.now) (flat c.args.filtered.now) (c.requires.small c.loop-k.k) c.eight_times-light.ensures
+      c.apart16-gap.ensures
       c.loop-k.invariant.1,
 )

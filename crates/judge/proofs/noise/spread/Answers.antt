@@ -12,14 +12,16 @@ loop-j-init c = (omega arith, rows_none c.args.width c.args.levels.now c.args.fi
 pub slice_bounds-row_sums-end : goal.slice_bounds-row_sums-end
 slice_bounds-row_sums-end c =
     let room =
-    inside c.args.width c.args.height c.args.levels.now c.args.filtered.now c.requires.0 c.requires.1 c.loop-j.invariant.1 c.loop-j-test.true
+    inside c.args.width c.args.height c.args.levels.now c.args.filtered.now c.requires.0 c.requires.1 c.loop-j.invariant.1
+    c.loop-j-test.true
     in
     omega (arith, room, c.requires.1)
 
 pub loop-j-preserved : goal.loop-j-preserved
 loop-j-preserved c = (
   omega arith,
-  rows_more c.args.width c.args.height c.args.levels.now c.args.filtered.now c.requires.0 c.requires.1 c.loop-j.invariant.1 c.loop-j-test.true
+  rows_more c.args.width c.args.height c.args.levels.now c.args.filtered.now c.requires.0 c.requires.1
+      c.loop-j.invariant.1 c.loop-j-test.true
       c.row_sums-added.ensures,
 )
 

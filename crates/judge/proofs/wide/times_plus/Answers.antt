@@ -10,4 +10,8 @@ loop-j-init c = (omega arith, multiplied_none c.args.a c.args.k c.args.c _ refl 
 pub loop-j-preserved : goal.loop-j-preserved
 loop-j-preserved c =
     let l = c.loop-j in
-    (omega arith, multiplied_more c.args.a c.args.k c.args.c l.out l.carry l.j c.digit.result (omega arith) c.digit.ensures.1 c.digit.ensures.0 l.invariant.1)
+    let more =
+    multiplied_more c.args.a c.args.k c.args.c l.out l.carry l.j c.digit.result (omega arith) c.digit.ensures.1 c.digit.ensures.0
+    l.invariant.1
+    in
+    (omega arith, more)

@@ -1,3 +1,4 @@
+-- the parts that it lends to the filter are the last two rows.
 use Rattle.scan.specs.Asked.{Below}
 use mathlib.Core.List.{List}
 use Rattle.std.proofs.Common.{◌+◌, ◌≤◌, length, ℕ, ◌*◌, ◌%◌}
@@ -31,7 +32,8 @@ facts w h k late two row given =
 
 pub returns-then-n-eq0 : goal.returns-then-n-eq0
 returns-then-n-eq0 c =
-    none_completed c.args.width c.args.height c.args.k c.args.late c.args.two.now c.args.row.now c.args.out.now c.requires.0 _ c.long-n.ensures
+    none_completed c.args.width c.args.height c.args.k c.args.late c.args.two.now c.args.row.now c.args.out.now
+    c.requires.0 _ c.long-n.ensures
     (omega arith)
 
 pub overflow_add-older_end : goal.overflow_add-older_end

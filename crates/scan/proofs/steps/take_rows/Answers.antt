@@ -1,3 +1,4 @@
+-- after i turns i rows have come (`Taken`).
 use Rattle.scan.specs.Asked.{Coming}
 use Rattle.scan.proofs.steps.take_rows.Invariants.{Turn}
 use mathlib.Core.Path.{◌≡◌, refl, ap, ◌∙◌}
@@ -24,7 +25,8 @@ record Known (w h k each n levels output i at done : ℕ) : Type 0 where
   room : done + long w h (k + i) 3 ≤ output
 
 known : (w h k each n : ℕ) (rows levels output : List ℕ) → Coming w h k each n rows levels output
-    → (i at done : ℕ) (rows' output' widened halves quarters : List ℕ) → Turn w h k each n levels rows output rows' output' widened halves quarters i at done
+    → (i at done : ℕ) (rows' output' widened halves quarters : List ℕ)
+    → Turn w h k each n levels rows output rows' output' widened halves quarters i at done
     → i < n → Known w h k each n (length levels) (length output) i at done
 known w h k each n rows levels output coming i at done rows' output' widened halves quarters t here =
     let held = held_in w h k rows in
@@ -47,7 +49,9 @@ loop-i-init c = record {
   quarters_long = search rules;
   rows_long = refl;
   output_long = refl;
-  taken = taken_none c.args.width c.args.height c.args.k c.args.rows.now (row_at c.args.each c.args.levels.now) c.args.output.now c.requires.0;
+  taken =
+      taken_none c.args.width c.args.height c.args.k c.args.rows.now (row_at c.args.each c.args.levels.now) c.args.output.now
+      c.requires.0;
 }
 
 pub take_row-requires-clause-ready : goal.take_row-requires-clause-ready
@@ -91,7 +95,8 @@ loop-i-preserved c =
       rows_long = row.auto.rows ∙ t.rows_long;
       output_long = same_len_mid l.done (length l.output - l.done) l.output row.new.out row.auto.out ∙ t.output_long;
       taken =
-          turn c.args.each l.i l.at c.args.levels.now t.at_is is.inside c.args.width c.args.height c.args.k l.done _ c.args.rows.now c.args.output.now
+          turn c.args.each l.i l.at c.args.levels.now t.at_is is.inside c.args.width c.args.height c.args.k l.done _
+          c.args.rows.now c.args.output.now
           l.rows l.output row.new.rows _ row.new.out t.taken is.row_there bytes is.few row.ensures.rows_after row.ensures.out_after refl
           (ap (λ (z : ℕ). l.done + z) c.long-done.ensures);
     }

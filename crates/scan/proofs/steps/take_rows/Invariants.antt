@@ -20,7 +20,8 @@ pub record Turn (w h k each n : ℕ) (levels rows₀ output₀ rows output widen
 
 abbrev pub invariant-loop-i : goal.invariant-loop-i
 invariant-loop-i l =
-    Turn l.width l.height l.k l.each l.n l.levels l.initial.rows l.initial.output l.rows l.output l.widened l.halves l.quarters l.i l.at l.done
+    Turn l.width l.height l.k l.each l.n l.levels l.initial.rows l.initial.output l.rows l.output l.widened l.halves
+    l.quarters l.i l.at l.done
 
 abbrev pub decreases-loop-i : goal.decreases-loop-i
 decreases-loop-i l = l.n - l.i
