@@ -101,6 +101,15 @@ def own_theorem(function):
     return f'one_{function.name.rpartition("::")[2]}'
 
 
+def in_its_place(tree):
+    """the theorem that a call is determined, `one_CALL`, stands in proofs/Outcomes.antt of its crate and nowhere else in it"""
+    names = {(function.crate, own_theorem(function)) for function in tree.public.values()}
+    laws = [path for path in tree.sources() if path.suffix == '.antt' and path.name != Path(OUTCOMES).name]
+    return [f'{path.relative_to(tree.top)}: {name}' for path in laws
+            for name in re.findall(r'^ *(?:pub )?(\w+) :', path.read_text(encoding='utf-8'), re.M)
+            if (path.relative_to(tree.top).parts[1], name) in names]
+
+
 def cited_theorem(parts):
     """The theorem that a part "Determined" begins with, and the file that it names."""
     cited = re.match(r'`(one_\w+)`(?: \(([^()]*)\))?', parts.get('determined', ''))
@@ -339,8 +348,8 @@ def small_rooms(tree):
     return [str(path.relative_to(tree.top)) for path in tree.sources() if len(path.read_text(encoding='utf-8').splitlines()) > 400]
 
 
-RULES = (layout, no_requires, has_ensures, promised, determined, wrong_programs, telling_edits, one_table, one_version, one_bound,
-         declared, readme, contract_alone, small_rooms, short_notes, one_name, all_there)
+RULES = (layout, no_requires, has_ensures, promised, determined, in_its_place, wrong_programs, telling_edits, one_table, one_version,
+         one_bound, declared, readme, contract_alone, small_rooms, short_notes, one_name, all_there)
 
 
 def broken(rule, tree):

@@ -326,6 +326,12 @@ ALL_THERE = [
     *[fine(at_end(place, f'\n{OUT[0]}\n')) for place in NO_PLACES],
 ]
 
+LAW = 'crates/picture/proofs/Shapes.antt'
+IN_ITS_PLACE = [
+    *[fault(LAW, at_end(LAW, f'\n{text}\n')) for text in ('pub one_shape : ℕ', 'one_shape : ℕ', '  pub one_shape : ℕ')],
+    fine(at_end(LAW, '\npub one_filter : ℕ\n'), at_end(SHAPES_OF, '\npub one_more : ℕ\n')),
+]
+
 PLANTED = {
     'layout': [fault(PICTURE, Change(PICTURE, '    if width < 1 {', '  if width<1 {')),
                fault(VERDICTS, Change(VERDICTS, CITED, f'{CITED}   '))],
@@ -333,6 +339,7 @@ PLANTED = {
     'has_ensures': HAS_ENSURES,
     'promised': PROMISED,
     'determined': DETERMINED,
+    'in_its_place': IN_ITS_PLACE,
     'wrong_programs': WRONG_PROGRAMS,
     'telling_edits': TELLING_EDITS,
     'one_table': ONE_TABLE,

@@ -1,6 +1,6 @@
 /* The C library driven from standard input, as the program `calls` drives the library below it: the
  * same requests, the same lines (wire.py has both). So the comparison holds the C door to the second
- * program on any machine that can run x86-64 code, in an emulator too.
+ * program on any machine that runs x86-64 code.
  *
  * Beyond what `calls` can see it looks for what only C can get wrong: an answer that is not written
  * (it starts as all ones), an element written past a buffer (a guard stands behind it), an empty

@@ -14,18 +14,18 @@ use Rattle.sample.proofs.cubic.around.Goals as goal
 use Rattle.sample.proofs.cubic.around.Goals.{After-row_sum}
 
 -- the rows' terms, from the two coordinates
-abbrev row-terms : List ℕ → ℕ → Coordinate → Coordinate → ℕ → ℤ
-row-terms levels width column row = row_term levels width column.pixel row.pixel column.remainder row.remainder
+abbrev row_terms : List ℕ → ℕ → Coordinate → Coordinate → ℕ → ℤ
+row_terms levels width column row = row_term levels width column.pixel row.pixel column.remainder row.remainder
 
 module _ (c : After-row_sum) where
   abbrev terms : ℕ → ℤ
-  terms = row-terms c.args.levels.now c.args.width c.args.column c.args.row
+  terms = row_terms c.args.levels.now c.args.width c.args.column c.args.row
 
   bytes : AtMost 255 c.args.levels.now
   bytes p = omega (arith, c.type_inv.levels p)
 
-  is-weight : to_z w64 (of_z w64 c.weight.result) ≡ weight c.args.row.remainder c.loop-r.r
-  is-weight = to_z-of_z w64 c.weight.result (record { sfits = c.weight.type_inv }) ∙ c.weight.ensures
+  is_weight : to_z w64 (of_z w64 c.weight.result) ≡ weight c.args.row.remainder c.loop-r.r
+  is_weight = to_z-of_z w64 c.weight.result (record { sfits = c.weight.type_inv }) ∙ c.weight.ensures
 
   is_row : to_z w64 (of_z w64 c.row_sum.result)
       ≡ row_sum c.args.levels.now (row_start c.args.width c.args.column.pixel c.args.row.pixel c.loop-r.r) c.args.column.remainder
@@ -47,22 +47,22 @@ module _ (c : After-row_sum) where
 pub loop-r-init : goal.loop-r-init
 loop-r-init c =
     let a = c.args in
-    (omega arith, (first_start a.width a.column.pixel a.row.pixel, sym (sumℤ_none (row-terms a.levels.now a.width a.column a.row))))
+    (omega arith, (first_start a.width a.column.pixel a.row.pixel, sym (sumℤ_none (row_terms a.levels.now a.width a.column a.row))))
 
 pub overflow_mul-sum : goal.overflow_mul-sum
 overflow_mul-sum c =
     let w = (goal.at.overflow_mul-sum c).After-row_sum in
-    product_fits w64 (is-weight w) (is_row w) (room w)
+    product_fits w64 (is_weight w) (is_row w) (room w)
 
 pub overflow_add-sum : goal.overflow_add-sum
 overflow_add-sum c =
     let w = (goal.at.overflow_add-sum c).After-row_sum in
-    sum_fits w64 (is-weight w) (is_row w) (room w) c.loop-r.invariant.1.1 (more w)
+    sum_fits w64 (is_weight w) (is_row w) (room w) c.loop-r.invariant.1.1 (more w)
 
 pub loop-r-preserved : goal.loop-r-preserved
 loop-r-preserved c =
     let w = (goal.at.loop-r-preserved c).After-row_sum in
-    let next = sum_gives w64 (is-weight w) (is_row w) (room w) c.loop-r.invariant.1.1 (more w) in
+    let next = sum_gives w64 (is_weight w) (is_row w) (room w) c.loop-r.invariant.1.1 (more w) in
     let a = c.args in
     let at = next_start a.width a.column.pixel a.row.pixel c.loop-r.r c.loop-r.invariant.1.0 in
     (omega arith, (at, next ∙ sym (sumℤ_more c.loop-r.r (terms w))))

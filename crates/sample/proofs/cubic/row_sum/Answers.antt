@@ -20,11 +20,11 @@ module _ (c : After-weight) where
   bytes : AtMost 255 c.args.levels.now
   bytes p = omega (arith, c.type_inv.levels p)
 
-  is-weight : to_z w64 (of_z w64 c.weight.result) ≡ weight c.args.k c.loop-t.t
-  is-weight = to_z-of_z w64 c.weight.result (record { sfits = c.weight.type_inv }) ∙ c.weight.ensures
+  is_weight : to_z w64 (of_z w64 c.weight.result) ≡ weight c.args.k c.loop-t.t
+  is_weight = to_z-of_z w64 c.weight.result (record { sfits = c.weight.type_inv }) ∙ c.weight.ensures
 
-  is-level : to_z w64 (get_or c.args.levels.now (c.args.at + c.loop-t.t) 0) ≡ pos (get_or c.args.levels.now (c.args.at + c.loop-t.t) 0)
-  is-level = to_z_pos w64 (get_or c.args.levels.now (c.args.at + c.loop-t.t) 0) (omega (arith, bytes (c.args.at + c.loop-t.t)))
+  is_level : to_z w64 (get_or c.args.levels.now (c.args.at + c.loop-t.t) 0) ≡ pos (get_or c.args.levels.now (c.args.at + c.loop-t.t) 0)
+  is_level = to_z_pos w64 (get_or c.args.levels.now (c.args.at + c.loop-t.t) 0) (omega (arith, bytes (c.args.at + c.loop-t.t)))
 
   room : FitsSigned w64 (terms c.loop-t.t)
   room = column_fits c.args.levels.now bytes c.args.at c.args.k c.requires.1 c.loop-t.t (omega arith)
@@ -38,17 +38,17 @@ loop-t-init c = (omega arith, sym (sumℤ_none (column_term c.args.levels.now c.
 pub overflow_mul-sum : goal.overflow_mul-sum
 overflow_mul-sum c =
     let w = (goal.at.overflow_mul-sum c).After-weight in
-    product_fits w64 (is-weight w) (is-level w) (room w)
+    product_fits w64 (is_weight w) (is_level w) (room w)
 
 pub overflow_add-sum-in-loop-t : goal.overflow_add-sum-in-loop-t
 overflow_add-sum-in-loop-t c =
     let w = (goal.at.overflow_add-sum-in-loop-t c).After-weight in
-    sum_fits w64 (is-weight w) (is-level w) (room w) c.loop-t.invariant.1 (more w)
+    sum_fits w64 (is_weight w) (is_level w) (room w) c.loop-t.invariant.1 (more w)
 
 pub loop-t-preserved : goal.loop-t-preserved
 loop-t-preserved c =
     let w = (goal.at.loop-t-preserved c).After-weight in
-    let next = sum_gives w64 (is-weight w) (is-level w) (room w) c.loop-t.invariant.1 (more w) in
+    let next = sum_gives w64 (is_weight w) (is_level w) (room w) c.loop-t.invariant.1 (more w) in
     (omega arith, next ∙ sym (sumℤ_more c.loop-t.t (terms w)))
 
 pub returns : goal.returns
