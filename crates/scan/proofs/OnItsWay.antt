@@ -47,6 +47,10 @@ module _ {w h k : ℕ} {rows levels : List ℕ} (arriving : Arriving w h k rows 
       pub left : b ≡ replaced w k lent_second (take n x)
       pub gave : y ≡ completed (last_two w h k 2 lent_second) (take n x) ++ drop (long w h k 2) quarters
 
+    pub two_made : {n : ℕ} {b y quarters : List ℕ} → n ≡ long w h k 1 → b ≡ replaced w k lent_second (take n x)
+        → y ≡ completed (last_two w h k 2 lent_second) (take n x) ++ drop (long w h k 2) quarters → Two n b y quarters
+    two_made n_is left gave = record { n_is = n_is; left = left; gave = gave }
+
     module _ {n : ℕ} {b y quarters : List ℕ} (two : Two n b y quarters) where
       pub b_is : b ≡ replaced w k (two_of w rows 1) (pass_one_row (held_in w h k rows) levels)
       b_is = two_are arriving 1 _ _ b _ (second_two w rows a a_long) (halves_front n two.n_is) two.left

@@ -1,8 +1,15 @@
 -- each row adds its sums, and of all of them the result is made.
+use Prim.Native.Nat.{ℕ, ◌-◌, ◌*◌, ◌≤◌}
+use mathlib.Core.Path.{◌≡◌}
+use mathlib.Core.List.{List}
 use native.Mathlib.Omega.{arith}
+use lib.IntN.{pos}
+use lib.ListN.{length}
+use Rattle.judge.specs.Noise.{inner_pixels, spread_of}
+use Rattle.judge.specs.Asked.{Tiled, dist}
 use Rattle.judge.proofs.Inner.{few_inner}
 use Rattle.judge.proofs.Spreads.{light_at, flat_at, room, no_wrap, is_spread}
-use Rattle.judge.proofs.InnerRows.{rows_none, inside, rows_more, rows_all}
+use Rattle.judge.proofs.InnerRows.{Rows, rows_none, inside, rows_more, rows_all}
 use Rattle.judge.proofs.noise.spread.Goals as goal
 
 pub loop-j-init : goal.loop-j-init
@@ -25,35 +32,51 @@ loop-j-preserved c = (
       c.row_sums-added.ensures,
 )
 
--- after the loop the sums are those of all the pixels that count
+-- after the loop the sums are those of all the pixels that count, n of them: room for both products, and D
+record Ended (w h : ℕ) (levels filtered : List ℕ) (n squares away : ℕ) : Type 0 where
+  few : n * squares ≤ 4611686018427387904
+  enough : away * away ≤ n * squares
+  is : pos (n * squares - away * away) ≡ spread_of w h levels filtered
+
+ended : (w h : ℕ) (levels filtered : List ℕ) (t : Tiled w h filtered) (whole : length levels ≡ w * h) {squares lights flats at j : ℕ}
+    → Rows w levels filtered squares lights flats at j → j ≡ h - 6
+    → (n away : ℕ) → n ≡ inner_pixels w h → away ≡ dist lights flats → Ended w h levels filtered n squares away
+ended w h levels filtered t whole rows all n away n_is away_is =
+    let sums = rows_all w h levels filtered t whole rows all in
+    rw n_is (record {
+      few = omega (arith, room (light_at w levels) (flat_at w filtered) sums (few_inner w h t.sides));
+      enough = no_wrap (light_at w levels) (flat_at w filtered) sums away_is;
+      is = is_spread w h levels filtered sums away_is;
+    })
+
 pub overflow_mul-result : goal.overflow_mul-result
 overflow_mul-result c =
-    let w = c.args.width in
-    let h = c.args.height in
-    let ended = rows_all w h c.args.levels.now c.args.filtered.now c.requires.0 c.requires.1 c.loop-j.invariant.1 (omega arith) in
-    let few = room (light_at w c.args.levels.now) (flat_at w c.args.filtered.now) ended (few_inner w h c.requires.0.sides) in
-    rw c.inner_pixels.ensures (omega (arith, few))
+    let end =
+    ended c.args.width c.args.height c.args.levels.now c.args.filtered.now c.requires.0 c.requires.1 c.loop-j.invariant.1 (omega arith) _ _
+    c.inner_pixels.ensures c.apart-away.ensures
+    in
+    omega (arith, end.few)
 
 pub overflow_mul-result-2 : goal.overflow_mul-result-2
 overflow_mul-result-2 c =
-    let w = c.args.width in
-    let h = c.args.height in
-    let ended = rows_all w h c.args.levels.now c.args.filtered.now c.requires.0 c.requires.1 c.loop-j.invariant.1 (omega arith) in
-    let few = room (light_at w c.args.levels.now) (flat_at w c.args.filtered.now) ended (few_inner w h c.requires.0.sides) in
-    let enough = no_wrap (light_at w c.args.levels.now) (flat_at w c.args.filtered.now) ended c.apart-away.ensures in
-    omega (arith, few, enough)
+    let end =
+    ended c.args.width c.args.height c.args.levels.now c.args.filtered.now c.requires.0 c.requires.1 c.loop-j.invariant.1 (omega arith) _ _
+    c.inner_pixels.ensures c.apart-away.ensures
+    in
+    omega (arith, end.few, end.enough)
 
 pub overflow_sub-result : goal.overflow_sub-result
 overflow_sub-result c =
-    let w = c.args.width in
-    let h = c.args.height in
-    let ended = rows_all w h c.args.levels.now c.args.filtered.now c.requires.0 c.requires.1 c.loop-j.invariant.1 (omega arith) in
-    rw c.inner_pixels.ensures (no_wrap (light_at w c.args.levels.now) (flat_at w c.args.filtered.now) ended c.apart-away.ensures)
+    let end =
+    ended c.args.width c.args.height c.args.levels.now c.args.filtered.now c.requires.0 c.requires.1 c.loop-j.invariant.1 (omega arith) _ _
+    c.inner_pixels.ensures c.apart-away.ensures
+    in
+    end.enough
 
 pub returns : goal.returns
 returns c =
-    let w = c.args.width in
-    let h = c.args.height in
-    let ended = rows_all w h c.args.levels.now c.args.filtered.now c.requires.0 c.requires.1 c.loop-j.invariant.1 (omega arith) in
-    let few = room (light_at w c.args.levels.now) (flat_at w c.args.filtered.now) ended (few_inner w h c.requires.0.sides) in
-    rw c.inner_pixels.ensures (is_spread w h c.args.levels.now c.args.filtered.now ended c.apart-away.ensures, omega (arith, few))
+    let end =
+    ended c.args.width c.args.height c.args.levels.now c.args.filtered.now c.requires.0 c.requires.1 c.loop-j.invariant.1 (omega arith) _ _
+    c.inner_pixels.ensures c.apart-away.ensures
+    in
+    (end.is, omega (arith, end.few))
