@@ -3,10 +3,9 @@ use Prim.Native.Nat.{ℕ, ◌-◌, ◌*◌, ◌≤◌}
 use mathlib.Core.Path.{◌≡◌}
 use mathlib.Core.List.{List}
 use native.Mathlib.Omega.{arith}
-use lib.IntN.{pos}
 use lib.ListN.{length}
-use Rattle.judge.specs.Noise.{inner_pixels, spread_of}
-use Rattle.judge.specs.Asked.{Tiled, dist}
+use Rattle.judge.specs.Noise.{inner_pixels}
+use Rattle.judge.specs.Asked.{Tiled, Sums}
 use Rattle.judge.proofs.Inner.{few_inner}
 use Rattle.judge.proofs.Spreads.{light_at, flat_at, room, no_wrap, is_spread}
 use Rattle.judge.proofs.InnerRows.{Rows, rows_none, inside, rows_more, rows_all}
@@ -32,51 +31,48 @@ loop-j-preserved c = (
       c.row_sums-added.ensures,
 )
 
--- after the loop the sums are those of all the pixels that count, n of them: room for both products, and D
-record Ended (w h : ℕ) (levels filtered : List ℕ) (n squares away : ℕ) : Type 0 where
-  few : n * squares ≤ 4611686018427387904
-  enough : away * away ≤ n * squares
-  is : pos (n * squares - away * away) ≡ spread_of w h levels filtered
-
-ended : (w h : ℕ) (levels filtered : List ℕ) (t : Tiled w h filtered) (whole : length levels ≡ w * h) {squares lights flats at j : ℕ}
+-- after the loop the sums are those of all the pixels that count, n of them, and there is room for the first product
+all_rows : (w h : ℕ) (levels filtered : List ℕ) (t : Tiled w h filtered) (whole : length levels ≡ w * h) {squares lights flats at j : ℕ}
     → Rows w levels filtered squares lights flats at j → j ≡ h - 6
-    → (n away : ℕ) → n ≡ inner_pixels w h → away ≡ dist lights flats → Ended w h levels filtered n squares away
-ended w h levels filtered t whole rows all n away n_is away_is =
+    → (n : ℕ) → n ≡ inner_pixels w h
+    → Sums (light_at w levels) (flat_at w filtered) n squares lights flats × (n * squares ≤ 4611686018427387904)
+all_rows w h levels filtered t whole rows all n n_is =
     let sums = rows_all w h levels filtered t whole rows all in
-    rw n_is (record {
-      few = omega (arith, room (light_at w levels) (flat_at w filtered) sums (few_inner w h t.sides));
-      enough = no_wrap (light_at w levels) (flat_at w filtered) sums away_is;
-      is = is_spread w h levels filtered sums away_is;
-    })
+    rw n_is (sums, omega (arith, room (light_at w levels) (flat_at w filtered) sums (few_inner w h t.sides)))
 
 pub overflow_mul-result : goal.overflow_mul-result
 overflow_mul-result c =
-    let end =
-    ended c.args.width c.args.height c.args.levels.now c.args.filtered.now c.requires.0 c.requires.1 c.loop-j.invariant.1 (omega arith) _ _
-    c.inner_pixels.ensures c.apart-away.ensures
+    let all =
+    all_rows c.args.width c.args.height c.args.levels.now c.args.filtered.now c.requires.0 c.requires.1 c.loop-j.invariant.1 (omega arith) _
+    c.inner_pixels.ensures
     in
-    omega (arith, end.few)
+    omega (arith, all.1)
 
 pub overflow_mul-result-2 : goal.overflow_mul-result-2
 overflow_mul-result-2 c =
-    let end =
-    ended c.args.width c.args.height c.args.levels.now c.args.filtered.now c.requires.0 c.requires.1 c.loop-j.invariant.1 (omega arith) _ _
-    c.inner_pixels.ensures c.apart-away.ensures
+    let all =
+    all_rows c.args.width c.args.height c.args.levels.now c.args.filtered.now c.requires.0 c.requires.1 c.loop-j.invariant.1 (omega arith) _
+    c.inner_pixels.ensures
     in
-    omega (arith, end.few, end.enough)
+    let enough = no_wrap (light_at c.args.width c.args.levels.now) (flat_at c.args.width c.args.filtered.now) all.0 c.apart-away.ensures in
+    omega (arith, all.1, enough)
 
 pub overflow_sub-result : goal.overflow_sub-result
 overflow_sub-result c =
-    let end =
-    ended c.args.width c.args.height c.args.levels.now c.args.filtered.now c.requires.0 c.requires.1 c.loop-j.invariant.1 (omega arith) _ _
-    c.inner_pixels.ensures c.apart-away.ensures
+    let all =
+    all_rows c.args.width c.args.height c.args.levels.now c.args.filtered.now c.requires.0 c.requires.1 c.loop-j.invariant.1 (omega arith) _
+    c.inner_pixels.ensures
     in
-    end.enough
+    no_wrap (light_at c.args.width c.args.levels.now) (flat_at c.args.width c.args.filtered.now) all.0 c.apart-away.ensures
 
 pub returns : goal.returns
 returns c =
-    let end =
-    ended c.args.width c.args.height c.args.levels.now c.args.filtered.now c.requires.0 c.requires.1 c.loop-j.invariant.1 (omega arith) _ _
-    c.inner_pixels.ensures c.apart-away.ensures
+    let w = c.args.width in
+    let h = c.args.height in
+    let all =
+    all_rows w h c.args.levels.now c.args.filtered.now c.requires.0 c.requires.1 c.loop-j.invariant.1 (omega arith) _ c.inner_pixels.ensures
     in
-    (end.is, omega (arith, end.few))
+    let sums = rows_all w h c.args.levels.now c.args.filtered.now c.requires.0 c.requires.1 c.loop-j.invariant.1 (omega arith) in (
+      rw c.inner_pixels.ensures (is_spread w h c.args.levels.now c.args.filtered.now sums c.apart-away.ensures),
+      omega (arith, all.1),
+    )

@@ -17,10 +17,6 @@ arriving_is : {w h k : ℕ} {rows : List ℕ} (levels : List ℕ) → Ready w h 
     → ((i : ℕ) → Fits w8 (get_or levels i 0)) → Arriving w h k rows levels
 arriving_is levels ready long_as bytes = record { ready = ready; long_as = long_as; bytes = λ i. omega (arith, bytes i) }
 
--- how long the row of pass one or two is, and the room for it
-fits : (w h k late n : ℕ) (row row' : List ℕ) → length row' ≡ length row → n ≡ long w h k late → w ≤ length row → n ≤ length row'
-fits w h k late n row row' same n_is room = omega (arith, same, n_is, long_most h k late w, room)
-
 module _ {w h k : ℕ} {rows levels : List ℕ} (arriving : Arriving w h k rows levels) (widened wide : List ℕ)
     (is : wide ≡ over widened 0 levels) where
   widened_is : take (length levels) wide ≡ levels
@@ -42,11 +38,14 @@ pass-requires c =
     (first_asks arriving _ part_is, le_trans (long_most c.args.height c.args.k 1 c.args.width) c.requires.width_in_bounds.1)
 
 pub slice_bounds-pass-end-6 : goal.slice_bounds-pass-end-6
-slice_bounds-pass-end-6 c = fits c.args.width c.args.height c.args.k 1 _ _ _ c.pass.auto.out c.long-n1.ensures c.requires.width_in_bounds.1
+slice_bounds-pass-end-6 c =
+    omega (arith, c.pass.auto.out, c.long-n1.ensures, long_most c.args.height c.args.k 1 c.args.width, c.requires.width_in_bounds.1)
 
 pub slice_bounds-pass-end-7 : goal.slice_bounds-pass-end-7
 slice_bounds-pass-end-7 c =
-    let room = fits c.args.width c.args.height c.args.k 1 _ _ _ c.pass.auto.out c.long-n1.ensures c.requires.width_in_bounds.1 in
+    let room : c.long-n1.result ≤ length c.pass.new.out =
+    omega (arith, c.pass.auto.out, c.long-n1.ensures, long_most c.args.height c.args.k 1 c.args.width, c.requires.width_in_bounds.1)
+    in
     sym (length-take-le _ _ room)
 
 pub pass-requires-2 : goal.pass-requires-2
@@ -58,11 +57,13 @@ pass-requires-2 c =
 
 pub slice_bounds-pass-end-9 : goal.slice_bounds-pass-end-9
 slice_bounds-pass-end-9 c =
-    fits c.args.width c.args.height c.args.k 2 _ _ _ c.pass-2.auto.out c.long-n2.ensures c.requires.width_in_bounds.2
+    omega (arith, c.pass-2.auto.out, c.long-n2.ensures, long_most c.args.height c.args.k 2 c.args.width, c.requires.width_in_bounds.2)
 
 pub slice_bounds-pass-end-10 : goal.slice_bounds-pass-end-10
 slice_bounds-pass-end-10 c =
-    let room = fits c.args.width c.args.height c.args.k 2 _ _ _ c.pass-2.auto.out c.long-n2.ensures c.requires.width_in_bounds.2 in
+    let room : c.long-n2.result ≤ length c.pass-2.new.out =
+    omega (arith, c.pass-2.auto.out, c.long-n2.ensures, long_most c.args.height c.args.k 2 c.args.width, c.requires.width_in_bounds.2)
+    in
     sym (length-take-le _ _ room)
 
 pub pass-requires-3 : goal.pass-requires-3
