@@ -123,7 +123,8 @@ def theorems(tree, path):
 
 def another_promise(tree, page, function, theorem):
     """What is wrong where a call is said to have the promise of another, which its part "Promise" names: the two contracts are
-    the same word for word, their words mean the same, and the theorem is the other call's."""
+    the same word for word, but that one may say `told result` of the number that the other returns, their words mean the same,
+    and the theorem is the other call's."""
     named = re.search(r'\bthat of `([\w:]+)`', page.calls[function.name].get('promise', ''))
     other = tree.public.get(named.group(1)) if named else None
     if not other:
@@ -132,7 +133,8 @@ def another_promise(tree, page, function, theorem):
         return f'{theorem} is not the theorem of {other.name}'
     ours, theirs = (brought(source(one.file)) for one in (function, other))
     words = [word for text in function.promises() for word in WORD.findall(text)]
-    same = function.promises() == other.promises() and all(ours.get(word) == theirs.get(word) for word in words)
+    numbers = [text.replace('(told result)', 'result') for text in other.promises()]
+    same = function.promises() == numbers and all(ours.get(word) == theirs.get(word) for word in words)
     return '' if same else f'its promise is not that of {other.name}'
 
 
@@ -219,10 +221,11 @@ def telling_edits(tree):
 
 
 def one_table(tree):
-    """include/gong.h has the numbers of crates/answers/src/table.rt, by the same names, and a text for each"""
-    table = re.findall(r'pub const (\w+): u8 = (\d+);', source(tree.top / 'crates/answers/src/table.rt'))
+    """include/gong.h has the numbers of the enum Refusal in crates/answers/src/lib.rt, by the same names, and 0, and a text for each"""
+    refusals = re.findall(r'^    (\w+) = (\d+),$', source(tree.top / 'crates/answers/src/lib.rt'), re.M)
+    table = [('DONE', '0'), *((re.sub(r'(?<=.)(?=[A-Z])', '_', name).upper(), number) for name, number in refusals)]
     header = re.findall(r'\bGONG_(\w+) = (\d+)', tree.text('include/gong.h'))
-    same = table and table == header
+    same = refusals and table == header
     return wrong_texts(tree, {int(number) for _, number in table}) if same else [f'{sorted(set(table) ^ set(header))}']
 
 

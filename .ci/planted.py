@@ -96,10 +96,10 @@ NO_REQUIRES = [
     *[fault('picture::bare', in_picture(signature + NAMED_DEMAND + NAMED_PROMISE + rest)) for signature, rest in SHAPES],
     *[fine(in_picture(signature + promise + rest)) for signature, rest in SHAPES for promise in (PROMISE, NAMED_PROMISE)],
     fault('length::halve', Change('crates/length/src/lib.rt', '\nfn halve(', '\npub fn halve(')),
-    fault('judge::noise::spread', Change('crates/judge/src/noise.rt', 'pub(crate) fn spread', 'pub fn spread')),
+    fault('judge::ratio::ratio', Change('crates/judge/src/ratio.rt', 'pub(crate) fn ratio', 'pub fn ratio')),
 ]
 
-SIGNED = 'shape(levels: usize, width: usize, height: usize) → u8'
+SIGNED = 'shape(levels: usize, width: usize, height: usize) → Result<(), Refusal>'
 PROMISED = [
     fault('picture::next_one is not there', in_picture('')),
     fault('arithmetic::', Change(PAGE, '`arithmetic::bytes::pair`', '`arithmetic::pair`')),
@@ -111,17 +111,18 @@ PROMISED = [
     fault('picture::shape: promise', Change(PAGE, '- **Promise**: `Shaped`', '- **Promise**: `Sized`.\n- **Promise**: `Shaped`')),
     # declared otherwise than in the source
     *[fault('picture::shape is declared', change) for change in instead_of(
-        PAGE, f'\n    {SIGNED}\n', '', f'\n{SIGNED}\n', f'\n    {SIGNED}16\n', f'\n    {SIGNED[:-5]}\n',
+        PAGE, f'\n    {SIGNED}\n', '', f'\n{SIGNED}\n', f'\n    {SIGNED}16\n', f'\n    {SIGNED.partition(" → ")[0]}\n',
         f'\n    {SIGNED.replace("width", "breadth")}\n', f'\n    {SIGNED.replace("shape", "form")}\n',
         f'\n    {SIGNED.replace(", height: usize", "")}\n')],
     fault('units::Sixteenths::of is declared', Change(PAGE, 'Sixteenths::of`(n: i64)', 'Sixteenths::of`(n: u64)')),
     fault('length::length is declared', Change('crates/length/src/lib.rt', '(factor: Sixteenths,', '(factor: Picometres,')),
-    fault('picture::shape is declared', Change(PICTURE, 'height: usize) -> u8', 'height: usize) -> u16')),
+    fault('picture::shape is declared', Change(PICTURE, 'height: usize) -> Result<(), Refusal>', 'height: usize) -> Result<u8, Refusal>')),
     # parameters of types are not said, and a parameter's own type may have brackets
     fine(Change(PICTURE, 'pub fn shape(', 'pub fn shape<R: Read<u8>, E>(')),
-    *[kind(Change('crates/streams/src/lib.rt', 'answer: std::io::Result<()>)', f'answer: std::io::Result<{inner}>)'))
+    *[kind(Change('crates/streams/src/lib.rt', 'answer: io::Result<()>)', f'answer: io::Result<{inner}>)'))
       for kind, inner in ((partial(fault, 'streams::sent is declared'), '(u8)'), (fine, '()'))],
-    *[fine(change) for change in instead_of(PAGE, 'Given { number, rows }', 'Given', 'Given, of which more is below')],
+    *[fine(change) for change in instead_of(
+        PAGE, 'n: u64, after: u8) → usize', 'n: u64, after: u8) → usize { end }', 'n: u64, after: u8) → usize, of which more is below')],
 ]
 
 EQUATION = 'result ≡ sixteenths n'
@@ -216,7 +217,7 @@ TELLING_EDITS = [
 BOUNDS = ('GONG_MOST_SIDE', 1024), ('GONG_MOST_PIXELS', 1048576), ('GONG_HISTOGRAM', 256), ('GONG_SAMPLE_LEVEL', 67108864)
 ONE_TABLE = [
     fault("'18'", Change(HEADER, '_INPUT = 18', '_INPUT = 19')),
-    fault('LONG_INPUT', Change('crates/answers/src/table.rt', 'pub const LONG_INPUT: u8 = 18;', '')),
+    fault('LONG_INPUT', Change('crates/answers/src/lib.rt', 'LongInput = 18,', '')),
     fault('LONG_INPUT', Change(HEADER, 'GONG_LONG_INPUT =', 'GONG_LARGE_INPUT =')),
     # the texts: one too few, one too many, an empty one, one twice, and one for a number that is not given
     fault('text', Change(HEADER, '"done",', '')),
@@ -280,12 +281,12 @@ CONTRACT_ALONE = [
         'use Rattle as r', 'use «Rattle».filter.specs.Median.{pass}')],
     fine(Change(VERDICTS, CITED, f'{CITED[:-1]},\n    Sized}}\nuse Rattle.filter.proofs.Outcomes.{{Fits, when_fits}}')),
     *[fault(JUDGE, change) for change in instead_of(
-        JUDGE, 'use answers::table;', 'use filter as f;', 'use filter;', 'use filter::passes;', 'use filter::sizes as s;',
+        JUDGE, 'use answers::Refusal;', 'use filter as f;', 'use filter;', 'use filter::passes;', 'use filter::sizes as s;',
         'use filter::{sizes};', 'use ::filter as f;', 'extern crate filter as f;', 'use filter::*;',
         'ghost use Rattle.filter.specs.Sorting.{Sized};')],
     *[fault(JUDGE, change) for change in instead_of(
-        JUDGE, 'filter::sizes(levels', 'filter::rows::one_row(levels', 'filter :: rows(levels', 'filter::filter::sizes(levels')],
-    fine(Change(JUDGE, 'use answers::table;', '// filter::passes has more\nuse filter::sizes;\nuse filtered::more;')),
+        JUDGE, 'filter::sizes(levels', 'filter::rows::make(levels', 'filter :: rows(levels', 'filter::filter::sizes(levels')],
+    fine(Change(JUDGE, 'use answers::Refusal;', '// filter::passes has more\nuse filter::sizes;\nuse filtered::more;')),
     fault(GONG, Change(GONG, 'ghost use Rattle.filter.specs.Filter.', 'ghost use Rattle.filter.specs.Median.')),
     fault(CALLS, Change(CALLS, 'filter::filter(', 'filter::passes(')),
     # a crate that goes by rows may say what a row is, and no more
@@ -333,7 +334,7 @@ IN_ITS_PLACE = [
 ]
 
 PLANTED = {
-    'layout': [fault(PICTURE, Change(PICTURE, '    if width < 1 {', '  if width<1 {')),
+    'layout': [fault(PICTURE, Change(PICTURE, '    let side = 1..=1_024;', '  let side=1..=1_024;')),
                fault(VERDICTS, Change(VERDICTS, CITED, f'{CITED}   '))],
     'no_requires': NO_REQUIRES,
     'has_ensures': HAS_ENSURES,

@@ -71,13 +71,13 @@ def sent_on():
             if re.search(r'document 01', text, re.I) and not re.search(r'\]\((?:\.\./)?(?:docs/)?rules\.md', text)]
 
 
-MODEL = 'crates/filter/src/block.rt', 'fn gather', 'crates/filter/proofs/block/gather'
+MODEL = 'crates/threshold/src/counting.rt', 'pub(crate) fn counts_of', 'crates/threshold/proofs/counting/counts_of'
 
 
 def model_proof():
     """PROVING.md: the function and the proof files that it explains are those of the crate"""
     page, (source, head, folder) = text_of('docs/PROVING.md'), MODEL
-    found = re.search(rf'^{head}\b.*?^}}\n', text_of(source), re.M | re.S)
+    found = re.search(rf'^{re.escape(head)}\b.*?^}}\n', text_of(source), re.M | re.S)
     proofs = [text_of(f'{folder}/{name}.antt') for name in ('Invariants', 'Answers')]
     return ['its function'] * (fenced(page, 'rust')[:1] != [found.group()]) + ['its proof'] * (fenced(page, 'antt')[:2] != proofs)
 

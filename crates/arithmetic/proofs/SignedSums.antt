@@ -39,10 +39,6 @@ unfolding sum sumℤ
 sum_diff zero z f g p = pos_diff 0
 sum_diff (suc n) z f g p = rw (sum_diff n z f g p, p n) (add_diff (sum n f) (sum n g) (f n) (g n))
 
--- the same of differences as they are written
-pub sum_minus : (n : ℕ) (f g : ℕ → ℕ) → sumℤ n (λ i. pos (f i) -ℤ pos (g i)) ≡ pos (sum n f) -ℤ pos (sum n g)
-sum_minus n f g = sum_diff n (λ i. pos (f i) -ℤ pos (g i)) f g (λ i. pos_minus (f i) (g i)) ∙ sym (pos_minus (sum n f) (sum n g))
-
 -- signed numbers that are natural ones have the same sum
 pub sum_natural : (n : ℕ) (z : ℕ → ℤ) (f : ℕ → ℕ) → ((i : ℕ) → z i ≡ pos (f i)) → sumℤ n z ≡ pos (sum n f)
 unfolding sum sumℤ
@@ -68,3 +64,7 @@ module _ (n : ℕ) (p : ℕ → Bool) where
       picked : (b : Bool) (i : ℕ) → cond b (pos (f i) -ℤ pos (g i)) (pos 0) ≡ sub_ℕ (cond b (f i) 0) (cond b (g i) 0)
       picked true i = pos_minus (f i) (g i)
       picked false i = pos_diff 0
+
+-- the same of differences as they are written
+pub sum_minus : (n : ℕ) (f g : ℕ → ℕ) → sumℤ n (λ i. pos (f i) -ℤ pos (g i)) ≡ pos (sum n f) -ℤ pos (sum n g)
+sum_minus n f g = sum_diff n (λ i. pos (f i) -ℤ pos (g i)) f g (λ i. pos_minus (f i) (g i)) ∙ sym (pos_minus (sum n f) (sum n g))

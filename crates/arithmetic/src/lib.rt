@@ -13,7 +13,7 @@ ghost use Rattle.std.specs.Prelude.{◌≡◌};
 ghost use Rattle.arithmetic.specs.Signed.{nat_of};
 
 // A fraction: a pair of whole numbers, not reduced.
-#[derive(Clone, Copy)]
+#[derive(Clone, Copy, Debug, PartialEq, Eq)]
 pub struct Fraction {
     pub numerator: u64,
     pub denominator: u64,
@@ -23,5 +23,5 @@ pub struct Fraction {
 pub fn natural(z: i64) -> u64
     ensures { result ≡ nat_of z }
 {
-    if z < 0 { 0 } else { z as u64 }
+    u64::try_from(z).unwrap_or(0)
 }

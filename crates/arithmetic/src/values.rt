@@ -1,4 +1,5 @@
-// 16-bit numbers: two of them, and several at once.
+// 16-bit numbers: two of them, and several at once. (Of two, std's methods do it, for any type that is ordered; here they
+// have a promise in plain numbers, which callers and the edits hold them to.)
 ghost use Rattle.std.specs.Prelude.{◌≡◌, true, false, max, min};
 ghost use Rattle.arithmetic.specs.Greatest.{Least};
 ghost use Rattle.arithmetic.specs.Lists.{AtMost};
@@ -8,14 +9,14 @@ ghost use Rattle.answers.specs.Refusals.{Unless};
 pub fn larger(a: u16, b: u16) -> u16
     ensures { result ≡ max a b }
 {
-    if a < b { b } else { a }
+    a.max(b)
 }
 
 // The smaller of two.
 pub fn smaller(a: u16, b: u16) -> u16
     ensures { result ≡ min a b }
 {
-    if a < b { a } else { b }
+    a.min(b)
 }
 
 // Whether each of some values is at most `most`. All are looked at, also past one that is not: so the loop
@@ -30,11 +31,9 @@ pub fn at_most(values: &[u16], most: u16) -> bool
 fn greatest(values: &[u16]) -> u16
     ensures { Least (λ b. AtMost b values.now) result }
 {
-    let mut most = 0u16;
-    let mut i = 0usize;
-    while i < values.len() {
-        most = larger(most, values[i]);
-        i += 1;
+    let mut most = 0;
+    for &value in values {
+        most = larger(most, value);
     }
     most
 }

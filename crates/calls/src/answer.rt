@@ -1,202 +1,129 @@
-// What goes to standard output, by way of a block: text is put into the block, and the block is
-// written when it is nearly full and at the end of an answer. What the digits are is promised by the
-// crate `text`; here is when they are written.
-ghost use Rattle.std.specs.Prelude.{◌≡◌, ◌+◌, ◌≤◌, ◌<◌, length};
+// What goes to standard output, by way of a block: text is put into the block, and the block is written
+// when it is nearly full and at the end of an answer. What the digits are is promised by the crate `text`;
+// here is when they are written.
+ghost use Rattle.std.specs.Prelude.{◌≡◌, ◌≤◌, ◌+◌, OnOk};
 
-use crate::{ANSWERED, FAILED};
+use answers::Refusal;
+use streams::Failed;
 
-// Where the text in the block ends, or that standard output failed on the way.
+// How many bytes the block has: `io::large_buffer`.
+const BLOCK: usize = 65_536;
+
+// How many bytes a number, its sign and what stands after it have at most, and some more.
+const ROOM: usize = 32;
+
+// Text on its way out: that at the front of the block is still to be written.
 #[derive(Drop)]
-pub struct Ended {
-    pub failed: bool,
-    pub at: usize,
+pub(crate) struct Text {
+    block: [u8; 65_536],
+    at: usize,
+    ghost inside: { at ≤ 65_536 },
 }
 
-// The text ends at `at`, and all went well.
-fn so_far(at: usize) -> Ended
-    ensures { result.at ≡ at }
-{
-    Ended { failed: false, at }
-}
-
-// Writes some text; whether standard output took it. Where not, that has been said.
-fn write(rt: &HostRuntime, text: &[u8]) -> bool {
-    streams::sent(rt, rt.write_all(text))
-}
-
-// Writes the text in the block, the last of an answer; how the request ended.
-pub(crate) fn send(rt: &HostRuntime, block: &[u8], text: Ended) -> u8
-    requires { text.at ≤ length block.now }
-{
-    if text.failed {
-        return FAILED;
-    }
-    if write(rt, &block[..text.at]) {
-        return ANSWERED;
-    }
-    FAILED
-}
-
-// Where 32 bytes more have room: a number, its sign and what stands after it are fewer.
-fn room(rt: &HostRuntime, block: &[u8], at: usize) -> Ended
-    requires { (32 ≤ length block.now) × (at ≤ length block.now) }
-    ensures { result.at + 32 ≤ length block.now }
-{
-    if at <= block.len() - 32 {
-        return so_far(at);
-    }
-    Ended {
-        failed: !write(rt, &block[..at]),
-        at: 0,
-    }
-}
-
-// A store of its own, so that callers need only that the block keeps its length.
-fn store(block: &mut [u8], at: usize, b: u8)
-    requires { at < length block.old }
-{
-    block[at] = b;
-}
-
-// A number, and the byte `after` behind it.
-fn put(rt: &HostRuntime, block: &mut [u8], at: usize, n: u64, after: u8) -> Ended
-    requires { (32 ≤ length block.old) × (at ≤ length block.old) }
-    ensures { result.at ≤ length block.old }
-{
-    let start = room(rt, block, at);
-    if start.failed {
-        return start;
-    }
-    so_far(text::number(block, start.at, n, after))
-}
-
-// What stands after element i of n: a space, or the end of the line.
-fn after(i: usize, n: usize) -> u8
-    requires { i < n }
-{
-    if i + 1 < n { b' ' } else { b'\n' }
-}
-
-// A letter and numbers after it, as a line at the block's start.
-pub(crate) fn line(rt: &HostRuntime, block: &mut [u8], letter: u8, numbers: &[u64]) -> Ended
-    requires { 32 ≤ length block.old }
-    ensures { result.at ≤ length block.old }
-{
-    store(block, 0, letter);
-    store(block, 1, b' ');
-    let mut at = 2;
-    let mut i = 0;
-    while i < numbers.len() {
-        let text = put(rt, block, at, numbers[i], after(i, numbers.len()));
-        if text.failed {
-            return text;
+impl Text {
+    pub(crate) fn new() -> Text {
+        Text {
+            block: io::large_buffer(),
+            at: 0,
         }
-        at = text.at;
-        i += 1;
     }
-    so_far(at)
-}
 
-// A letter, a number and a signed number, as a line at the block's start.
-pub(crate) fn signed_line(
-    rt: &HostRuntime,
-    block: &mut [u8],
-    letter: u8,
-    number: u64,
-    v: i64,
-) -> Ended
-    requires { 32 ≤ length block.old }
-    ensures { result.at ≤ length block.old }
-{
-    store(block, 0, letter);
-    store(block, 1, b' ');
-    let first = put(rt, block, 2, number, b' ');
-    if first.failed {
-        return first;
+    // Writes what the block has.
+    pub(crate) fn send(&mut self, rt: &HostRuntime) -> Result<(), Failed>
+        ensures { self.new.at ≡ 0 }
+    {
+        let answer = rt.write_all(&self.block[..self.at]);
+        self.at = 0;
+        streams::sent(rt, answer)
     }
-    let start = room(rt, block, first.at);
-    if start.failed {
-        return start;
-    }
-    so_far(text::signed(block, start.at, v, b'\n'))
-}
 
-// The end of a line of no elements.
-fn end(rt: &HostRuntime, block: &mut [u8], at: usize) -> Ended
-    requires { (32 ≤ length block.old) × (at ≤ length block.old) }
-    ensures { result.at ≤ length block.old }
-{
-    let start = room(rt, block, at);
-    if start.failed {
-        return start;
-    }
-    store(block, start.at, b'\n');
-    so_far(start.at + 1)
-}
-
-// A function of its own, so that the loop below has no cast for its proof to follow.
-fn value_as_number(value: u16) -> u64 {
-    value as u64
-}
-
-// The elements of a buffer of values, as a line behind the text that the block has.
-pub(crate) fn values(rt: &HostRuntime, block: &mut [u8], text: Ended, s: &[u16]) -> Ended
-    requires { (32 ≤ length block.old) × (text.at ≤ length block.old) }
-    ensures { result.at ≤ length block.old }
-{
-    if text.failed {
-        return text;
-    }
-    if s.len() == 0 {
-        return end(rt, block, text.at);
-    }
-    let mut at = text.at;
-    let mut i = 0;
-    while i < s.len() {
-        let more = put(rt, block, at, value_as_number(s[i]), after(i, s.len()));
-        if more.failed {
-            return more;
+    // Makes room for a number.
+    fn make_room(&mut self, rt: &HostRuntime) -> Result<(), Failed>
+        ensures { OnOk result (self.new.at + 32 ≤ 65_536) }
+    {
+        if BLOCK - ROOM < self.at {
+            self.send(rt)?;
         }
-        at = more.at;
-        i += 1;
+        Ok(())
     }
-    so_far(at)
-}
 
-// The same of a count.
-fn count_as_number(count: u32) -> u64 {
-    count as u64
-}
+    // A byte.
+    fn byte(&mut self, rt: &HostRuntime, b: u8) -> Result<(), Failed> {
+        self.make_room(rt)?;
+        self.block[self.at] = b;
+        self.at += 1;
+        Ok(())
+    }
 
-// The elements of a buffer of counts, likewise.
-pub(crate) fn counts(rt: &HostRuntime, block: &mut [u8], text: Ended, s: &[u32]) -> Ended
-    requires { (32 ≤ length block.old) × (text.at ≤ length block.old) }
-    ensures { result.at ≤ length block.old }
-{
-    if text.failed {
-        return text;
+    // A number, and the byte `after` behind it.
+    fn number(&mut self, rt: &HostRuntime, n: u64, after: u8) -> Result<(), Failed> {
+        self.make_room(rt)?;
+        self.at = text::number(&mut self.block, self.at, n, after);
+        Ok(())
     }
-    if s.len() == 0 {
-        return end(rt, block, text.at);
+
+    // The same of a signed number.
+    fn signed(&mut self, rt: &HostRuntime, v: i64, after: u8) -> Result<(), Failed> {
+        self.make_room(rt)?;
+        self.at = text::signed(&mut self.block, self.at, v, after);
+        Ok(())
     }
-    let mut at = text.at;
-    let mut i = 0;
-    while i < s.len() {
-        let more = put(rt, block, at, count_as_number(s[i]), after(i, s.len()));
-        if more.failed {
-            return more;
+
+    // A letter and numbers after it, as a line.
+    pub(crate) fn line(
+        &mut self,
+        rt: &HostRuntime,
+        letter: u8,
+        numbers: &[u64],
+    ) -> Result<(), Failed> {
+        self.byte(rt, letter)?;
+        self.byte(rt, b' ')?;
+        self.elements(rt, numbers)
+    }
+
+    // A letter and the number that came back, as a line.
+    pub(crate) fn number_line(
+        &mut self,
+        rt: &HostRuntime,
+        letter: u8,
+        answer: Result<(), Refusal>,
+    ) -> Result<(), Failed> {
+        self.line(rt, letter, &[u64::from(answers::number(answer))])
+    }
+
+    // A letter, a number and a signed number, as a line.
+    pub(crate) fn signed_line(
+        &mut self,
+        rt: &HostRuntime,
+        letter: u8,
+        number: u64,
+        v: i64,
+    ) -> Result<(), Failed> {
+        self.byte(rt, letter)?;
+        self.byte(rt, b' ')?;
+        self.number(rt, number, b' ')?;
+        self.signed(rt, v, b'\n')
+    }
+
+    // Numbers, as the rest of a line: a space between two, and the end of the line after the last.
+    pub(crate) fn elements<T: Copy + Into<u64>>(
+        &mut self,
+        rt: &HostRuntime,
+        s: &[T],
+    ) -> Result<(), Failed> {
+        let Some((&last, others)) = s.split_last() else {
+            return self.byte(rt, b'\n');
+        };
+        for &x in others {
+            self.number(rt, x.into(), b' ')?;
         }
-        at = more.at;
-        i += 1;
+        self.number(rt, last.into(), b'\n')
     }
-    so_far(at)
-}
 
-// The run's last line: some words and a number.
-pub(crate) fn last(rt: &HostRuntime, block: &mut [u8], words: &[u8], n: u64) {
-    if write(rt, words) {
-        let end = text::number(block, 0, n, b'\n');
-        // nothing is written after it, so whether it was written changes nothing more
-        write(rt, &block[..end]);
+    // The run's last line: some words and a number.
+    pub(crate) fn last(&mut self, rt: &HostRuntime, words: &[u8], n: u64) -> Result<(), Failed> {
+        streams::sent(rt, rt.write_all(words))?;
+        self.number(rt, n, b'\n')?;
+        self.send(rt)
     }
 }

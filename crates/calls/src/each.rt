@@ -1,284 +1,188 @@
-// Each public call: its arguments read, the call made, its answer written; and how the request ended.
-// Where it was not whole, nothing has been answered. A call on parts of longer spaces stands in a function
-// of its own, `.._lent`: so the prover finds the lengths of the spaces without help.
-ghost use Rattle.std.specs.Prelude.{◌≤◌, length};
+// Each public call: its arguments read, the call made, its answer written. Where a request is not whole,
+// nothing has been answered.
+use crate::answer::Text;
+use crate::{Stop, asked, request};
+use answers::Refusal;
+use streams::Failed;
+use units::Picometres;
 
-use crate::{ANSWERED, answer, asked, request};
-use scan::Given;
-
-// `f` and `m`: levels, width, height, output, work.
-pub(crate) fn picture(
+// `f`: levels, width, height, output, work.
+pub(crate) fn filter(
     rt: &HostRuntime,
-    letter: u8,
-    block: &mut [u8],
+    text: &mut Text,
     levels: &mut [u8],
     one: &mut [u16],
     two: &mut [u16],
-) -> u8
-    requires { 32 ≤ length block.old }
-{
-    let l = request::levels(rt, levels);
-    if l.how != ANSWERED {
-        return l.how;
-    }
-    let mut sides = [0u8; 16];
-    let how = request::fill(rt, &mut sides);
-    if how != ANSWERED {
-        return how;
-    }
-    picture_lent(rt, letter, block, &levels[..l.count], &sides, one, two)
+) -> Result<(), Stop> {
+    picture(
+        rt,
+        text,
+        levels,
+        one,
+        two,
+        |text, levels, sides, output, work| {
+            text.number_line(rt, b'f', asked::filter(levels, sides, output, work))
+        },
+    )
 }
 
-// Their two buffers.
-fn picture_lent(
+// `m`: the same.
+pub(crate) fn measure(
     rt: &HostRuntime,
-    letter: u8,
-    block: &mut [u8],
-    levels: &[u8],
-    sides: &[u8; 16],
+    text: &mut Text,
+    levels: &mut [u8],
     one: &mut [u16],
     two: &mut [u16],
-) -> u8
-    requires { 32 ≤ length block.old }
-{
-    let a = request::value_buffer(rt, one);
-    if a.how != ANSWERED {
-        return a.how;
-    }
-    let b = request::value_buffer(rt, two);
-    if b.how != ANSWERED {
-        return b.how;
-    }
-    let output = &mut one[..a.count];
-    let work = &mut two[..b.count];
-    if letter == b'm' {
-        measure(rt, block, levels, sides, output, work)
-    } else {
-        filter(rt, block, levels, sides, output, work)
-    }
+) -> Result<(), Stop> {
+    picture(
+        rt,
+        text,
+        levels,
+        one,
+        two,
+        |text, levels, sides, output, work| {
+            let (number, ratio) = judge::numbers(asked::measure(levels, sides, output, work));
+            text.line(rt, b'm', &[u64::from(number), ratio])
+        },
+    )
 }
 
-// The calls themselves, and their answers.
-fn filter(
+// A call on a picture and its two buffers, which also puts its line; and both buffers as it left them.
+fn picture<F>(
     rt: &HostRuntime,
-    block: &mut [u8],
-    levels: &[u8],
-    sides: &[u8; 16],
-    output: &mut [u16],
-    work: &mut [u16],
-) -> u8
-    requires { 32 ≤ length block.old }
+    text: &mut Text,
+    levels: &mut [u8],
+    one: &mut [u16],
+    two: &mut [u16],
+    call: F,
+) -> Result<(), Stop>
+where
+    F: FnOnce(&mut Text, &[u8], &[u8; 16], &mut [u16], &mut [u16]) -> Result<(), Failed>,
+    requires { F.IsAlwaysCallable call }
 {
-    let number = asked::filter(levels, sides, output, work);
-    let text = answer::line(rt, block, b'f', &[number as u64]);
-    buffers(rt, block, text, output, work)
-}
-
-fn measure(
-    rt: &HostRuntime,
-    block: &mut [u8],
-    levels: &[u8],
-    sides: &[u8; 16],
-    output: &mut [u16],
-    work: &mut [u16],
-) -> u8
-    requires { 32 ≤ length block.old }
-{
-    let v = asked::measure(levels, sides, output, work);
-    let text = answer::line(rt, block, b'm', &[v.number as u64, v.ratio]);
-    buffers(rt, block, text, output, work)
-}
-
-// The rest of an answer: both buffers as the call left them.
-fn buffers(
-    rt: &HostRuntime,
-    block: &mut [u8],
-    text: answer::Ended,
-    output: &[u16],
-    work: &[u16],
-) -> u8
-    requires { (32 ≤ length block.old) × (text.at ≤ length block.old) }
-{
-    let first = answer::values(rt, block, text, output);
-    let both = answer::values(rt, block, first, work);
-    answer::send(rt, block, both)
+    let n = request::levels(rt, levels)?;
+    let mut sides = [0u8; 16];
+    request::fill(rt, &mut sides)?;
+    let long = request::buffer(rt, one)?;
+    let work_long = request::buffer(rt, two)?;
+    let output = &mut one[..long];
+    let work = &mut two[..work_long];
+    call(text, &levels[..n], &sides, output, work)?;
+    text.elements(rt, output)?;
+    text.elements(rt, work)?;
+    Ok(text.send(rt)?)
 }
 
 // `b`: width, height. The scan that the program keeps begins.
-pub(crate) fn start(rt: &HostRuntime, block: &mut [u8], held: &mut [u16]) -> u8
-    requires { 32 ≤ length block.old }
-{
+pub(crate) fn start(rt: &HostRuntime, text: &mut Text, held: &mut [u16]) -> Result<(), Stop> {
     let mut sides = [0u8; 16];
-    let how = request::fill(rt, &mut sides);
-    if how != ANSWERED {
-        return how;
-    }
-    let number = asked::start(held, &sides);
-    let text = answer::line(rt, block, b'b', &[number as u64]);
-    answer::send(rt, block, text)
+    request::fill(rt, &mut sides)?;
+    text.number_line(rt, b'b', asked::start(held, &sides))?;
+    Ok(text.send(rt)?)
 }
 
 // `r`: levels, output.
 pub(crate) fn rows(
     rt: &HostRuntime,
-    block: &mut [u8],
+    text: &mut Text,
     held: &mut [u16],
     levels: &mut [u8],
     one: &mut [u16],
-) -> u8
-    requires { 32 ≤ length block.old }
-{
-    let l = request::levels(rt, levels);
-    if l.how != ANSWERED {
-        return l.how;
-    }
-    let a = request::value_buffer(rt, one);
-    if a.how != ANSWERED {
-        return a.how;
-    }
-    rows_lent(rt, block, held, &levels[..l.count], &mut one[..a.count])
-}
-
-fn rows_lent(
-    rt: &HostRuntime,
-    block: &mut [u8],
-    held: &mut [u16],
-    levels: &[u8],
-    output: &mut [u16],
-) -> u8
-    requires { 32 ≤ length block.old }
-{
-    let given = scan::rows(held, levels, output);
-    given_rows(rt, block, b'r', given, output)
+) -> Result<(), Stop> {
+    let n = request::levels(rt, levels)?;
+    let long = request::buffer(rt, one)?;
+    let output = &mut one[..long];
+    let given = scan::rows(held, &levels[..n], output);
+    Ok(rows_given(rt, text, b'r', given, output)?)
 }
 
 // `z`: output.
-pub(crate) fn end(rt: &HostRuntime, block: &mut [u8], held: &mut [u16], one: &mut [u16]) -> u8
-    requires { 32 ≤ length block.old }
-{
-    let a = request::value_buffer(rt, one);
-    if a.how != ANSWERED {
-        return a.how;
-    }
-    end_lent(rt, block, held, &mut one[..a.count])
-}
-
-fn end_lent(rt: &HostRuntime, block: &mut [u8], held: &mut [u16], output: &mut [u16]) -> u8
-    requires { 32 ≤ length block.old }
-{
+pub(crate) fn end(
+    rt: &HostRuntime,
+    text: &mut Text,
+    held: &mut [u16],
+    one: &mut [u16],
+) -> Result<(), Stop> {
+    let long = request::buffer(rt, one)?;
+    let output = &mut one[..long];
     let given = scan::end(held, output);
-    given_rows(rt, block, b'z', given, output)
+    Ok(rows_given(rt, text, b'z', given, output)?)
 }
 
 // The answer of a call that gives rows out.
-fn given_rows(rt: &HostRuntime, block: &mut [u8], letter: u8, given: Given, output: &[u16]) -> u8
-    requires { 32 ≤ length block.old }
-{
-    let text = answer::line(rt, block, letter, &[given.number as u64, given.rows as u64]);
-    let all = answer::values(rt, block, text, output);
-    answer::send(rt, block, all)
+fn rows_given(
+    rt: &HostRuntime,
+    text: &mut Text,
+    letter: u8,
+    given: Result<usize, Refusal>,
+    output: &[u16],
+) -> Result<(), Failed> {
+    let rows = given.unwrap_or(0) as u64;
+    text.line(rt, letter, &[u64::from(answers::number(given)), rows])?;
+    text.elements(rt, output)?;
+    text.send(rt)
 }
 
 // `j`: count, bright, dark, spread.
-pub(crate) fn judge(rt: &HostRuntime, block: &mut [u8]) -> u8
-    requires { 32 ≤ length block.old }
-{
+pub(crate) fn judge(rt: &HostRuntime, text: &mut Text) -> Result<(), Stop> {
     let mut numbers = [0u8; 32];
-    let how = request::fill(rt, &mut numbers);
-    if how != ANSWERED {
-        return how;
-    }
-    let v = asked::judge(&numbers);
-    let text = answer::line(rt, block, b'j', &[v.number as u64, v.ratio]);
-    answer::send(rt, block, text)
+    request::fill(rt, &mut numbers)?;
+    let (number, ratio) = judge::numbers(asked::judge(&numbers));
+    text.line(rt, b'j', &[u64::from(number), ratio])?;
+    Ok(text.send(rt)?)
 }
 
 // `c`: values, histogram.
 pub(crate) fn count(
     rt: &HostRuntime,
-    block: &mut [u8],
-    values: &mut [u16],
+    text: &mut Text,
+    one: &mut [u16],
     counts: &mut [u32],
-) -> u8
-    requires { 32 ≤ length block.old }
-{
-    let v = request::values(rt, values);
-    if v.how != ANSWERED {
-        return v.how;
-    }
-    let h = request::count_buffer(rt, counts);
-    if h.how != ANSWERED {
-        return h.how;
-    }
-    count_lent(rt, block, &values[..v.count], &mut counts[..h.count])
-}
-
-fn count_lent(rt: &HostRuntime, block: &mut [u8], values: &[u16], histogram: &mut [u32]) -> u8
-    requires { 32 ≤ length block.old }
-{
-    let number = threshold::count(values, histogram);
-    let text = answer::line(rt, block, b'c', &[number as u64]);
-    let all = answer::counts(rt, block, text, histogram);
-    answer::send(rt, block, all)
+) -> Result<(), Stop> {
+    let n = request::slice(rt, one)?;
+    let places = request::buffer(rt, counts)?;
+    let histogram = &mut counts[..places];
+    text.number_line(rt, b'c', threshold::count(&one[..n], histogram))?;
+    text.elements(rt, histogram)?;
+    Ok(text.send(rt)?)
 }
 
 // `t`: histogram.
-pub(crate) fn two_means(rt: &HostRuntime, block: &mut [u8], counts: &mut [u32]) -> u8
-    requires { 32 ≤ length block.old }
-{
-    let h = request::counts(rt, counts);
-    if h.how != ANSWERED {
-        return h.how;
+pub(crate) fn two_means(rt: &HostRuntime, text: &mut Text, counts: &mut [u32]) -> Result<(), Stop> {
+    let places = request::slice(rt, counts)?;
+    let answer = threshold::two_means(&counts[..places]);
+    let number = u64::from(answers::number(answer));
+    match answer {
+        Ok(rest) => {
+            let value = rest.value;
+            text.line(
+                rt,
+                b't',
+                &[number, rest.rounds, value.numerator, value.denominator],
+            )?;
+        }
+        Err(_) => text.line(rt, b't', &[number, 0, 0, 0])?,
     }
-    let t = threshold::two_means(&counts[..h.count]);
-    let text = answer::line(
-        rt,
-        block,
-        b't',
-        &[
-            t.number as u64,
-            t.rounds,
-            t.value.numerator,
-            t.value.denominator,
-        ],
-    );
-    answer::send(rt, block, text)
+    Ok(text.send(rt)?)
 }
 
 // `s`: levels, width, height, x, y.
-pub(crate) fn sample(rt: &HostRuntime, block: &mut [u8], levels: &mut [u8]) -> u8
-    requires { 32 ≤ length block.old }
-{
-    let l = request::levels(rt, levels);
-    if l.how != ANSWERED {
-        return l.how;
-    }
+pub(crate) fn sample(rt: &HostRuntime, text: &mut Text, levels: &mut [u8]) -> Result<(), Stop> {
+    let n = request::levels(rt, levels)?;
     let mut numbers = [0u8; 32];
-    let how = request::fill(rt, &mut numbers);
-    if how != ANSWERED {
-        return how;
-    }
-    sample_lent(rt, block, &levels[..l.count], &numbers)
-}
-
-fn sample_lent(rt: &HostRuntime, block: &mut [u8], levels: &[u8], numbers: &[u8; 32]) -> u8
-    requires { 32 ≤ length block.old }
-{
-    let r = asked::sample(levels, numbers);
-    let text = answer::signed_line(rt, block, b's', r.number as u64, r.value);
-    answer::send(rt, block, text)
+    request::fill(rt, &mut numbers)?;
+    let sampled = asked::sample(&levels[..n], &numbers);
+    let number = u64::from(answers::number(sampled));
+    text.signed_line(rt, b's', number, sampled.unwrap_or(0))?;
+    Ok(text.send(rt)?)
 }
 
 // `l`: factor, pixel.
-pub(crate) fn length(rt: &HostRuntime, block: &mut [u8]) -> u8
-    requires { 32 ≤ length block.old }
-{
+pub(crate) fn length(rt: &HostRuntime, text: &mut Text) -> Result<(), Stop> {
     let mut numbers = [0u8; 16];
-    let how = request::fill(rt, &mut numbers);
-    if how != ANSWERED {
-        return how;
-    }
-    let r = asked::length(&numbers);
-    let text = answer::line(rt, block, b'l', &[r.number as u64, r.length.amount()]);
-    answer::send(rt, block, text)
+    request::fill(rt, &mut numbers)?;
+    let length = asked::length(&numbers);
+    let picometres = length.unwrap_or(Picometres::of(0)).amount();
+    text.line(rt, b'l', &[u64::from(answers::number(length)), picometres])?;
+    Ok(text.send(rt)?)
 }

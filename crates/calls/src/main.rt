@@ -7,152 +7,130 @@
 mod answer;
 mod asked;
 mod each;
+mod element;
 mod request;
 mod wire;
 
-ghost use Rattle.std.specs.Prelude.{◌≡◌, ◌≤◌, min, length};
-ghost use Rattle.calls.specs.Space.{OfLength};
+ghost use Rattle.std.specs.Prelude.{◌≡◌, length};
+ghost use Rattle.calls.specs.declared.Stop.TheVariants.{Failed as Stop_Failed};
 
-use request::Next;
+use answer::Text;
+use streams::Failed;
 
-// How a request ended: it was whole and has been answered; the input ended before it; it was cut
-// short, named no call or was too long; standard input or output failed, and that has been said.
-const ANSWERED: u8 = 0;
+// Why no other request is answered.
+#[derive(Clone, Copy, Debug, PartialEq, Eq)]
+pub(crate) enum Stop {
+    // the input ended before another one began
+    NoMore,
+    // it was cut short, named no call or was too long
+    Bad,
+    // standard input or output failed, and that has been said
+    Failed,
+}
 
-const NO_MORE: u8 = 1;
+impl From<Failed> for Stop {
+    ghost from_gives = { λ _ e. e ≡ Stop_Failed };
 
-const BAD: u8 = 2;
-
-const FAILED: u8 = 3;
-
-// A request by its letter, and how it ended. Each call reads its own arguments, into the spaces that
-// it needs, and writes its answer by way of the block.
-fn call(
-    rt: &HostRuntime,
-    letter: u8,
-    block: &mut [u8],
-    levels: &mut [u8],
-    one: &mut [u16],
-    two: &mut [u16],
-    counts: &mut [u32],
-    held: &mut [u16],
-) -> u8
-    requires { 32 ≤ length block.old }
-{
-    match letter {
-        b'f' => each::picture(rt, letter, block, levels, one, two),
-        b'm' => each::picture(rt, letter, block, levels, one, two),
-        b'b' => each::start(rt, block, held),
-        b'r' => each::rows(rt, block, held, levels, one),
-        b'z' => each::end(rt, block, held, one),
-        b'j' => each::judge(rt, block),
-        b'c' => each::count(rt, block, one, counts),
-        b't' => each::two_means(rt, block, counts),
-        b's' => each::sample(rt, block, levels),
-        b'l' => each::length(rt, block),
-        _ => BAD,
+    fn from(_failed: Failed) -> Stop {
+        Stop::Failed
     }
 }
 
-// The next request, and how it ended.
-fn turn(
-    rt: &HostRuntime,
-    block: &mut [u8],
-    levels: &mut [u8],
-    one: &mut [u16],
-    two: &mut [u16],
-    counts: &mut [u32],
-    held: &mut [u16],
-) -> u8
-    requires { 32 ≤ length block.old }
-{
-    match request::beginning(rt) {
-        Next::Letter(letter) => call(rt, letter, block, levels, one, two, counts, held),
-        Next::Nothing(how) => how,
+// What slices and buffers are read into and lent from, and the memory of the one scan that the program
+// keeps: all zeros is "before a good start".
+#[derive(Drop)]
+pub(crate) struct Spaces<'a> {
+    pub(crate) levels: &'a mut [u8],
+    pub(crate) one: &'a mut [u16],
+    pub(crate) two: &'a mut [u16],
+    pub(crate) counts: &'a mut [u32],
+    pub(crate) held: &'a mut [u16],
+}
+
+// The next request, by its letter. Each call reads its own arguments, into the spaces that it needs, and
+// writes its answer.
+fn turn(rt: &HostRuntime, text: &mut Text, spaces: Spaces<'_>) -> Result<(), Stop> {
+    let Spaces {
+        levels,
+        one,
+        two,
+        counts,
+        held,
+    } = spaces;
+    // the letters are bytes of the input, and this is their table
+    match request::beginning(rt)? {
+        b'f' => each::filter(rt, text, levels, one, two),
+        b'm' => each::measure(rt, text, levels, one, two),
+        b'b' => each::start(rt, text, held),
+        b'r' => each::rows(rt, text, held, levels, one),
+        b'z' => each::end(rt, text, held, one),
+        b'j' => each::judge(rt, text),
+        b'c' => each::count(rt, text, one, counts),
+        b't' => each::two_means(rt, text, counts),
+        b's' => each::sample(rt, text, levels),
+        b'l' => each::length(rt, text),
+        _ => Err(Stop::Bad),
     }
 }
 
 // The run's last line. There is none where standard input or output failed.
-fn finish(rt: &HostRuntime, block: &mut [u8], how: u8, answered: u64) {
-    if how == NO_MORE {
-        answer::last(rt, block, b"answered ", answered);
-        return;
-    }
-    if how == BAD {
-        answer::last(rt, block, b"bad request ", answered);
+fn finish(rt: &HostRuntime, text: &mut Text, stop: Stop, answered: u64) -> Result<(), Failed> {
+    match stop {
+        Stop::NoMore => text.last(rt, b"answered ", answered),
+        Stop::Bad => text.last(rt, b"bad request ", answered),
+        Stop::Failed => Err(Failed),
     }
 }
 
-// Requests, one after the other. Nothing says that the input ends, so the count of them is what
-// ends the loop, at a number that no run reaches.
+// A space of zeros: made by a function, so that no check looks into a million of them.
+fn space<T: Copy + Drop, const N: usize>(zero: T) -> [T; N]
+    ensures { N ≡ length result }
+{
+    [zero; N]
+}
+
+// Requests, one after the other. Nothing says that the input ends, so the loop does, at a number of
+// requests that no run reaches. (The loop is not main's: there Rattle's own compiler keeps one array twice,
+// which is more than a stack has.)
 fn serve(
     rt: &HostRuntime,
-    block: &mut [u8],
+    text: &mut Text,
     levels: &mut [u8],
     one: &mut [u16],
     two: &mut [u16],
     counts: &mut [u32],
     held: &mut [u16],
-)
-    requires { 32 ≤ length block.old }
-{
-    let mut answered: u64 = 0;
-    while answered < 18_446_744_073_709_551_615 {
-        let how = turn(rt, block, levels, one, two, counts, held);
-        if how != ANSWERED {
-            finish(rt, block, how, answered);
-            return;
+) -> Result<(), Failed> {
+    for answered in 0..u64::MAX {
+        let spaces = Spaces {
+            levels: &mut *levels,
+            one: &mut *one,
+            two: &mut *two,
+            counts: &mut *counts,
+            held: &mut *held,
+        };
+        if let Err(stop) = turn(rt, text, spaces) {
+            return finish(rt, text, stop, answered);
         }
-        answered += 1;
     }
+    Ok(())
 }
 
-// The smaller of two: what still has room, and what there is.
-fn smaller(a: usize, b: usize) -> usize
-    ensures { result ≡ min a b }
-{
-    if a < b { a } else { b }
-}
-
-// The longest slices and buffers that a request can name: one element more than any picture has, so
-// that one too many can be shown, and 4,096 counts. Each is made by a function, which promises its length.
-fn level_space() -> [u8; 1_048_577]
-    ensures { OfLength 1_048_577 result }
-{
-    [0; 1_048_577]
-}
-
-fn value_space() -> [u16; 1_048_577]
-    ensures { OfLength 1_048_577 result }
-{
-    [0; 1_048_577]
-}
-
-fn count_space() -> [u32; 4_096]
-    ensures { 4_096 ≡ length result }
-{
-    [0; 4_096]
-}
-
-// The memory of the one scan that the program keeps: all zeros is "before a good start".
-fn scan_space() -> [u16; 6_147]
-    ensures { OfLength 6_147 result }
-{
-    [0; 6_147]
-}
-
-// The spaces are made once and lent, so that no request pays for clearing them: 5 MiB of the 8 that
-// a stack has.
+// The spaces are made once and lent, so that no request pays for clearing them: 5 MiB of the 8 that a
+// stack has. They are as long as the longest slices and buffers that a request can name: one element more
+// than any picture has, so that one too many can be shown, and 4,096 counts. The memory is that of the one
+// scan that the program keeps: all zeros is "before a good start".
 fn main(rt: HostRuntime) {
-    let mut block = io::large_buffer();
-    let mut levels = level_space();
-    let mut one = value_space();
-    let mut two = value_space();
-    let mut counts = count_space();
-    let mut held = scan_space();
-    serve(
+    let mut text = Text::new();
+    let mut levels: [u8; 1_048_577] = space(0);
+    let mut one: [u16; 1_048_577] = space(0);
+    let mut two: [u16; 1_048_577] = space(0);
+    let mut counts: [u32; 4_096] = space(0);
+    let mut held: [u16; memory::LENGTH] = space(0);
+    // whether the last line was written changes nothing more
+    let _ = serve(
         &rt,
-        &mut block,
+        &mut text,
         &mut levels,
         &mut one,
         &mut two,

@@ -1,260 +1,89 @@
 // What comes from standard input: the bytes of numbers, read-only slices, buffers. What the input is
 // too short for is bad, and so is a slice or a buffer that is longer than the space for it.
-ghost use Rattle.std.specs.Prelude.{◌≡◌, ◌+◌, ◌*◌, ◌≤◌, length};
-ghost use Rattle.io.specs.Counts.{IsPrefixLen};
-ghost use Rattle.arithmetic.specs.Bytes.{two_bytes, four_bytes};
-ghost use Rattle.arithmetic.specs.Lists.{listed, over};
+ghost use Rattle.std.specs.Prelude.{◌≤◌, length, IfOk};
 ghost use Rattle.answers.specs.Refusals.{Unless};
+ghost use Rattle.calls.specs.declared.Stop.TheVariants.{Bad};
 ghost use Rattle.calls.specs.Space.{All, None, LentIs};
 
-use crate::{ANSWERED, BAD, FAILED, NO_MORE, smaller, wire};
+use crate::element::Element;
+use crate::{Stop, wire};
 use arithmetic::bytes;
 
-// What a request begins with: the letter of a call; or nothing, and how the run ends.
-#[derive(Drop)]
-pub enum Next {
-    Letter(u8),
-    Nothing(u8),
-}
-
-// The first `count` places of a space hold what a request named; none where it was not whole.
-#[derive(Drop)]
-pub struct Taken {
-    pub how: u8,
-    pub count: usize,
-}
-
-// The beginning of the next request.
-pub(crate) fn beginning(rt: &HostRuntime) -> Next {
+// The letter of the next request.
+pub(crate) fn beginning(rt: &HostRuntime) -> Result<u8, Stop> {
     let mut b = [0u8; 1];
-    let got = streams::read(&mut rt.stdin(), rt, &mut b);
-    if got.failed {
-        return Next::Nothing(FAILED);
+    let count = streams::read(&mut rt.stdin(), rt, &mut b)?;
+    if count == 0 {
+        return Err(Stop::NoMore);
     }
-    if got.count < 1 {
-        return Next::Nothing(NO_MORE);
-    }
-    Next::Letter(b[0])
+    Ok(b[0])
 }
 
-// Fills a space from the input; how that went.
-pub(crate) fn fill(rt: &HostRuntime, space: &mut [u8]) -> u8 {
-    let got = streams::read(&mut rt.stdin(), rt, space);
-    if got.failed {
-        return FAILED;
+// Fills a space from the input.
+pub(crate) fn fill(rt: &HostRuntime, space: &mut [u8]) -> Result<(), Stop> {
+    let count = streams::read(&mut rt.stdin(), rt, space)?;
+    if count < space.len() {
+        return Err(Stop::Bad);
     }
-    if got.count < space.len() {
-        return BAD;
-    }
-    ANSWERED
-}
-
-// Nothing is taken, and why.
-fn nothing(how: u8) -> Taken
-    ensures { None how result }
-{
-    Taken { how, count: 0 }
+    Ok(())
 }
 
 // A length as it was read, against a space of `most`: taken up to that very number, and no more.
-fn up_to(n: u64, most: usize) -> Taken
-    ensures { Unless (n ≤ most) (None 2 result) (All n result) }
+fn up_to(n: u64, most: usize) -> Result<usize, Stop>
+    ensures { Unless (n ≤ most) (None Bad result) (All n result) }
 {
     if (most as u64) < n {
-        return nothing(BAD);
+        return Err(Stop::Bad);
     }
-    Taken {
-        how: ANSWERED,
-        count: n as usize,
-    }
+    Ok(n as usize)
 }
 
 // A length that a space of `most` has room for.
-fn size(rt: &HostRuntime, most: usize) -> Taken
-    ensures { result.count ≤ most }
+fn size(rt: &HostRuntime, most: usize) -> Result<usize, Stop>
+    ensures { IfOk result (λ n. n ≤ most) }
 {
     let mut b = [0u8; 8];
-    let how = fill(rt, &mut b);
-    if how != ANSWERED {
-        return nothing(how);
-    }
+    fill(rt, &mut b)?;
     up_to(bytes::number(b), most)
 }
 
-// Fills the first n places of a space from the input; how that went.
-fn exactly(rt: &HostRuntime, space: &mut [u8], n: usize) -> u8
-    requires { n ≤ length space.old }
+// A read-only slice of levels, a byte each: how many, which are then at the front of the space.
+pub(crate) fn levels(rt: &HostRuntime, space: &mut [u8]) -> Result<usize, Stop>
+    ensures { IfOk result (λ n. n ≤ length space.new) }
 {
-    fill(rt, &mut space[..n])
+    let n = size(rt, space.len())?;
+    fill(rt, &mut space[..n])?;
+    Ok(n)
 }
 
-// A read-only slice of levels: a byte each.
-pub(crate) fn levels(rt: &HostRuntime, space: &mut [u8]) -> Taken
-    ensures { IsPrefixLen result.count space.new }
+// A read-only slice of other elements, by way of a block of bytes.
+pub(crate) fn slice<T: Element>(rt: &HostRuntime, space: &mut [T]) -> Result<usize, Stop>
+    ensures { IfOk result (λ n. n ≤ length space.new) }
 {
-    let t = size(rt, space.len());
-    if t.how != ANSWERED {
-        return nothing(t.how);
+    let n = size(rt, space.len())?;
+    let mut block = io::large_buffer();
+    for part in space[..n].chunks_mut(8_192) {
+        let b = &mut block[..T::BYTES * part.len()];
+        fill(rt, b)?;
+        T::join(b, part);
     }
-    let n = t.count;
-    let how = exactly(rt, space, n);
-    if how != ANSWERED {
-        return nothing(how);
-    }
-    t
+    Ok(n)
 }
 
-// Two bytes to each of k elements from `at` on.
-fn join_pairs(b: &[u8], space: &mut [u16], at: usize, k: usize)
-    requires { (at + k ≤ length space.old) × (2 * k ≤ length b.now) }
-    ensures { space.new ≡ over space.old at (listed k (λ i. two_bytes b.now (2 * i))) }
+// A buffer from the bytes of its length and of the value that fills it.
+fn lent<T: Element>(b: &[u8; 16], space: &mut [T]) -> Result<usize, Stop>
+    ensures { LentIs T.low_bits b.now space.old result space.new }
 {
-    let mut i = 0;
-    while i < k {
-        let j = 2 * i;
-        space[at + i] = bytes::pair(b[j], b[j + 1]);
-        i += 1;
-    }
-}
-
-// The first n elements of a space, by way of a block of bytes; how that went.
-fn pairs(rt: &HostRuntime, b: &mut [u8], space: &mut [u16], n: usize) -> u8
-    requires { (n ≤ length space.old) × (2 ≤ length b.old) }
-{
-    let mut at = 0;
-    while at < n {
-        let k = smaller(n - at, b.len() / 2);
-        let how = exactly(rt, b, 2 * k);
-        if how != ANSWERED {
-            return how;
-        }
-        join_pairs(b, space, at, k);
-        at += k;
-    }
-    ANSWERED
-}
-
-// A read-only slice of values: two bytes each.
-pub(crate) fn values(rt: &HostRuntime, space: &mut [u16]) -> Taken
-    ensures { IsPrefixLen result.count space.new }
-{
-    let t = size(rt, space.len());
-    if t.how != ANSWERED {
-        return nothing(t.how);
-    }
-    let n = t.count;
-    let mut b = io::large_buffer();
-    let how = pairs(rt, &mut b, space, n);
-    if how != ANSWERED {
-        return nothing(how);
-    }
-    t
-}
-
-// Four bytes to each of n elements.
-fn join_fours(b: &[u8], space: &mut [u32], n: usize)
-    requires { (n ≤ length space.old) × (4 * n ≤ length b.now) }
-    ensures { space.new ≡ over space.old 0 (listed n (λ i. four_bytes b.now (4 * i))) }
-{
-    let mut i = 0;
-    while i < n {
-        let j = 4 * i;
-        space[i] = bytes::four(bytes::pair(b[j], b[j + 1]), bytes::pair(b[j + 2], b[j + 3]));
-        i += 1;
-    }
-}
-
-// The first n elements of a space, by way of a block that has room for them all; how that went.
-fn fours(rt: &HostRuntime, b: &mut [u8], space: &mut [u32], n: usize) -> u8
-    requires { n ≤ length space.old }
-{
-    if b.len() / 4 < n {
-        return BAD;
-    }
-    let how = exactly(rt, b, 4 * n);
-    join_fours(b, space, n);
-    how
-}
-
-// A read-only slice of counts: four bytes each. 4,096 of them have room in the block.
-pub(crate) fn counts(rt: &HostRuntime, space: &mut [u32]) -> Taken
-    ensures { IsPrefixLen result.count space.new }
-{
-    let t = size(rt, space.len());
-    if t.how != ANSWERED {
-        return nothing(t.how);
-    }
-    let n = t.count;
-    let mut b = io::large_buffer();
-    let how = fours(rt, &mut b, space, n);
-    if how != ANSWERED {
-        return nothing(how);
-    }
-    t
-}
-
-// The first n places of a space are set to a value.
-fn set_values(space: &mut [u16], n: usize, v: u16)
-    requires { n ≤ length space.old }
-    ensures { space.new ≡ over space.old 0 (listed n (λ i. v)) }
-{
-    let mut i = 0;
-    while i < n {
-        space[i] = v;
-        i += 1;
-    }
-}
-
-// A buffer of values from the bytes of its length and of the value that fills it (its low 16 bits).
-fn lent_values(b: &[u8; 16], space: &mut [u16]) -> Taken
-    ensures { LentIs 65_536 b.now space.old result space.new }
-{
-    let t = up_to(wire::number(b, 0), space.len());
-    let n = t.count;
-    set_values(space, n, (wire::number(b, 1) % 65_536) as u16);
-    t
+    let n = up_to(wire::number(b, 0), space.len())?;
+    T::fill(&mut space[..n], wire::number(b, 1));
+    Ok(n)
 }
 
 // The same, with its bytes read from the input.
-pub(crate) fn value_buffer(rt: &HostRuntime, space: &mut [u16]) -> Taken
-    ensures { IsPrefixLen result.count space.new }
+pub(crate) fn buffer<T: Element>(rt: &HostRuntime, space: &mut [T]) -> Result<usize, Stop>
+    ensures { IfOk result (λ n. n ≤ length space.new) }
 {
     let mut b = [0u8; 16];
-    let how = fill(rt, &mut b);
-    if how != ANSWERED {
-        return nothing(how);
-    }
-    lent_values(&b, space)
-}
-
-fn set_counts(space: &mut [u32], n: usize, v: u32)
-    requires { n ≤ length space.old }
-    ensures { space.new ≡ over space.old 0 (listed n (λ i. v)) }
-{
-    let mut i = 0;
-    while i < n {
-        space[i] = v;
-        i += 1;
-    }
-}
-
-// A buffer of counts, likewise (its low 32 bits).
-fn lent_counts(b: &[u8; 16], space: &mut [u32]) -> Taken
-    ensures { LentIs 4_294_967_296 b.now space.old result space.new }
-{
-    let t = up_to(wire::number(b, 0), space.len());
-    let n = t.count;
-    set_counts(space, n, (wire::number(b, 1) % 4_294_967_296) as u32);
-    t
-}
-
-pub(crate) fn count_buffer(rt: &HostRuntime, space: &mut [u32]) -> Taken
-    ensures { IsPrefixLen result.count space.new }
-{
-    let mut b = [0u8; 16];
-    let how = fill(rt, &mut b);
-    if how != ANSWERED {
-        return nothing(how);
-    }
-    lent_counts(&b, space)
+    fill(rt, &mut b)?;
+    lent(&b, space)
 }

@@ -15,10 +15,9 @@ use Rattle.arithmetic.proofs.Computed.{when}
 use Rattle.filter.specs.Filter.{pass_three}
 use Rattle.filter.proofs.Outcomes.{Fits}
 use Rattle.filter.proofs.Examples.{three_holds, row as filter_row}
-use Rattle.judge.specs.declared.Verdict.{Verdict}
 use Rattle.judge.specs.Extremes.{maximum, minimum, tile, over_tiles, bright, dark}
 use Rattle.judge.specs.Noise.{inner_pixels, sum_inner, spread_of}
-use Rattle.judge.specs.Judge.{verdict, JudgeIs}
+use Rattle.judge.specs.Judge.{Verdict, verdict, JudgeIs}
 use Rattle.judge.specs.Measure.{MeasurableSide, Judged, Measurement, MeasureIs}
 use Rattle.judge.proofs.Outcomes.{when_measured}
 use Rattle.judge.proofs.Examples.{holds as judge_holds, row as judge_row}

@@ -16,9 +16,8 @@ use Rattle.arithmetic.proofs.Computed.{each}
 use Rattle.units.specs.Units.{eighths}
 use Rattle.filter.specs.Filter.{pass_three}
 use Rattle.filter.proofs.Examples.{three_holds, row as filter_row}
-use Rattle.judge.specs.declared.Verdict.{Verdict}
 use Rattle.judge.specs.Noise.{counts, difference, sum_inner, spread_of}
-use Rattle.judge.specs.Judge.{verdict, refused, JudgeIs}
+use Rattle.judge.specs.Judge.{Verdict, verdict, refused, JudgeIs}
 use Rattle.judge.proofs.Examples.{holds as judge_holds, row as judge_row}
 use Rattle.cases.proofs.Measured.{Measures, holds}
 

@@ -4,15 +4,11 @@ use Rattle.std.proofs.Math.ListN as ListN
 use Rattle.arithmetic.specs.declared.Fraction.{Fraction}
 use Rattle.units.specs.Units.{sixteenths, picometres, eighths}
 use Rattle.filter.specs.Filter.{pass_one, Outcome, FilterIs}
-use Rattle.judge.specs.declared.Verdict.{Verdict}
-use Rattle.judge.specs.Judge.{JudgeIs}
-use Rattle.threshold.specs.declared.Threshold.{Threshold}
-use Rattle.threshold.specs.TwoMeans.{level, start, Rests, TwoMeansIs}
+use Rattle.judge.specs.Judge.{Verdict, JudgeIs}
+use Rattle.threshold.specs.TwoMeans.{Threshold, level, start, Rests, TwoMeansIs}
 use Rattle.threshold.specs.Worked.{histogram, Walk}
-use Rattle.sample.specs.declared.Sampled.{Sampled}
-use Rattle.sample.specs.Cubic.{SampleIs}
-use Rattle.length.specs.declared.Sharpness.{Sharpness}
-use Rattle.length.specs.Length.{LengthIs}
+use Rattle.sample.specs.Cubic.{Sampled, SampleIs}
+use Rattle.length.specs.Length.{Sharpness, LengthIs}
 
 -- ---- a row
 -- a call, and what it is given

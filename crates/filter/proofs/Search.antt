@@ -1,5 +1,5 @@
 -- What median.rt does: both counts of a level, made one level after the other, and the search for the level of a rank. Assumes nothing.
-use mathlib.Core.Path.{◌≡◌, sym, ◌∙◌}
+use mathlib.Core.Path.{◌≡◌, refl, sym, ◌∙◌}
 use mathlib.Core.Logic.{◌⊎◌, inl, inr, ⊎_elim}
 use mathlib.Core.List.{List}
 use Prim.Native.Nat.{ℕ, ◌+◌, ◌-◌, ◌/◌, ◌≤◌, ◌<◌}
@@ -7,7 +7,6 @@ use native.Mathlib.Decide.{ℕ_discrete}
 use native.Mathlib.Omega.{arith}
 use borrow.Author.Count.{below_more}
 use lib.ListN.{length, get_or, take}
-use lib.Seq.{get_or-take, length-take-le}
 use Rattle.answers.specs.Refusals.{Unless}
 use Rattle.arithmetic.proofs.Sums.{sum_none}
 use Rattle.filter.specs.Median.{sorted, twice_median}
@@ -99,54 +98,45 @@ module _ (l : List ℕ) (r : ℕ) (inside : r < length l) where
   pub sought_last : (k v : ℕ) → length l ≤ k → Sought l r k v → v ≡ get_or (sorted l) r 0
   sought_last k v all so_far = ⊎_elim (λ e. e) (λ none. absurd (some_level l r inside (λ i h. none i (omega arith)))) so_far.state
 
--- ---- the search, among the first n of t, for both middle levels
-pub record Middles (t : List ℕ) (n k lower upper : ℕ) : Type 0 where
-  pub lower_sought : Sought (take n t) ((n - 1) / 2) k lower
-  pub upper_sought : Sought (take n t) (n / 2) k upper
+-- ---- the search, among the levels l, for both middle levels
+pub record Middles (l : List ℕ) (k lower upper : ℕ) : Type 0 where
+  pub lower_sought : Sought l ((length l - 1) / 2) k lower
+  pub upper_sought : Sought l (length l / 2) k upper
 
-module _ (t : List ℕ) (n : ℕ) (some : 1 ≤ n) (long : n ≤ length t) where
-  many : length (take n t) ≡ n
-  many = length-take-le n t long
+module _ (l : List ℕ) (some : 1 ≤ length l) where
+  low_inside : (length l - 1) / 2 < length l
+  low_inside = omega arith
 
-  low_inside : (n - 1) / 2 < length (take n t)
-  low_inside = omega (arith, many)
+  high_inside : length l / 2 < length l
+  high_inside = omega arith
 
-  high_inside : n / 2 < length (take n t)
-  high_inside = omega (arith, many)
-
-  in_take : (k : ℕ) → k < n → get_or t k 0 ≡ get_or (take n t) k 0
-  in_take k h = sym (get_or-take n t k 0 h)
-
-  pub middles_first : Middles t n 1 (get_or t 0 0) (get_or t 0 0)
+  pub middles_first : Middles l 1 (get_or l 0 0) (get_or l 0 0)
   middles_first =
-      let first = in_take 0 (omega arith) in
       record {
-        lower_sought = sought_first (take n t) ((n - 1) / 2) low_inside (get_or t 0 0) first;
-        upper_sought = sought_first (take n t) (n / 2) high_inside (get_or t 0 0) first;
+        lower_sought = sought_first l ((length l - 1) / 2) low_inside (get_or l 0 0) refl;
+        upper_sought = sought_first l (length l / 2) high_inside (get_or l 0 0) refl;
       }
 
   -- of n levels n − 1 − (n − 1)/2 is n/2, so that the two ranks are also how many may lie above
-  pub middles_more : (k v below above low high lower upper lower' upper' : ℕ) → k < n → v ≡ get_or t k 0 → SidesAre v (take n t) below above
-      → low ≡ (n - 1) / 2 → high ≡ n / 2
-      → Unless ((below ≤ low) × (above ≤ high)) (lower' ≡ lower) (lower' ≡ v)
-      → Unless ((below ≤ high) × (above ≤ low)) (upper' ≡ upper) (upper' ≡ v)
-      → Middles t n k lower upper → Middles t n (k + 1) lower' upper'
-  middles_more k v below above low high lower upper lower' upper' here is counts low-is high_is takes-lower takes-upper so_far =
-      let l = take n t in
-      let v-is = is ∙ in_take k here in
-      let above_lower : high ≡ length l - 1 - (n - 1) / 2 = omega (arith, many) in
-      let above-upper : low ≡ length l - 1 - n / 2 = omega (arith, many) in
-      let for-lower = sought-more l ((n - 1) / 2) low_inside k v below above low high v-is counts low-is above_lower in
-      let for-upper = sought-more l (n / 2) high_inside k v below above high low v-is counts high_is above-upper in
+  pub middles_more : (k below above low high lower upper lower' upper' : ℕ) → SidesAre (get_or l k 0) l below above
+      → low ≡ (length l - 1) / 2 → high ≡ length l / 2
+      → Unless ((below ≤ low) × (above ≤ high)) (lower' ≡ lower) (lower' ≡ get_or l k 0)
+      → Unless ((below ≤ high) × (above ≤ low)) (upper' ≡ upper) (upper' ≡ get_or l k 0)
+      → Middles l k lower upper → Middles l (k + 1) lower' upper'
+  middles_more k below above low high lower upper lower' upper' counts low-is high_is takes-lower takes-upper so_far =
+      let v = get_or l k 0 in
+      let above_lower : high ≡ length l - 1 - (length l - 1) / 2 = omega arith in
+      let above-upper : low ≡ length l - 1 - length l / 2 = omega arith in
+      let for-lower = sought-more l ((length l - 1) / 2) low_inside k v below above low high refl counts low-is above_lower in
+      let for-upper = sought-more l (length l / 2) high_inside k v below above high low refl counts high_is above-upper in
       record {
         lower_sought = for-lower lower lower' takes-lower so_far.lower_sought;
         upper_sought = for-upper upper upper' takes-upper so_far.upper_sought;
       }
 
-  pub middles_last : (k lower upper : ℕ) → n ≤ k → Middles t n k lower upper → lower + upper ≡ twice_median (take n t)
+  pub middles_last : (k lower upper : ℕ) → length l ≤ k → Middles l k lower upper → lower + upper ≡ twice_median l
   unfolding twice_median
   middles_last k lower upper all so_far =
-      let looked-at : length (take n t) ≤ k = omega (arith, many) in
-      let lower-is = sought_last (take n t) ((n - 1) / 2) low_inside k lower looked-at so_far.lower_sought in
-      let upper_is = sought_last (take n t) (n / 2) high_inside k upper looked-at so_far.upper_sought in
-      rw (many, lower-is, upper_is)
+      let lower-is = sought_last l ((length l - 1) / 2) low_inside k lower all so_far.lower_sought in
+      let upper_is = sought_last l (length l / 2) high_inside k upper all so_far.upper_sought in
+      rw (lower-is, upper_is)

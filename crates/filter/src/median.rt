@@ -16,23 +16,20 @@ ghost use Rattle.filter.specs.Median.{twice_median};
 ghost use Rattle.filter.specs.Counting.{one_below, SidesAre};
 ghost use Rattle.filter.specs.Asked.{Count};
 
-// Twice the median of the first n of t: the lower and the upper middle level, added; of an odd number
-// they are one. The search begins with the first level: where none of the others is found, it is the
-// one.
-pub(crate) fn twice(t: &[u16], n: usize) -> u16
-    requires { Count n × (n ≤ length t.now) × AtMost 1_020 (take n t.now) }
-    ensures { result ≡ twice_median (take n t.now) }
+// Twice the median of some levels: the lower and the upper middle level, added; of an odd number they are
+// one. The search begins with the first level: where none of the others is found, it is the one.
+pub(crate) fn twice(levels: &[u16]) -> u16
+    requires { Count (length levels.now) × AtMost 1_020 levels.now }
+    ensures { result ≡ twice_median levels.now }
 {
-    let ranks = middle_ranks(n);
-    let mut lower = t[0];
-    let mut upper = t[0];
-    let mut k = 1;
-    while k < n {
-        let v = t[k];
-        let sides = others(t, n, k, v);
+    let ranks = middle_ranks(levels.len());
+    let mut lower = levels[0];
+    let mut upper = levels[0];
+    for k in 1..levels.len() {
+        let v = levels[k];
+        let sides = others(levels, k, v);
         lower = found(sides, ranks.low, ranks.high, v, lower);
         upper = found(sides, ranks.high, ranks.low, v, upper);
-        k += 1;
     }
     lower + upper
 }
@@ -46,7 +43,7 @@ struct Ranks {
     high: u16,
 }
 
-// "A pixel so has 1, 2, 3, 4, 6 or 9 levels in its block."
+// "A pixel so has 1, 2, 3, 4, 6 or 9 levels in its block." A `match` on the count is the form that document 01 names.
 fn middle_ranks(n: usize) -> Ranks
     requires { Count n }
     ensures { (result.low ≡ (n - 1) / 2) × (result.high ≡ n / 2) }
@@ -78,34 +75,30 @@ struct Sides {
     above: u16,
 }
 
-// Those of v, which stands at place k, among the first n of t. Those before it and those after it are
-// counted; v itself lies neither below nor above v.
-fn others(t: &[u16], n: usize, k: usize, v: u16) -> Sides
-    requires { (k < n) × (n ≤ length t.now) × (n ≤ 9) × AtMost 1_020 (take n t.now) × (v ≡ get_or t.now k 0) }
-    ensures { SidesAre v (take n t.now) result.below result.above }
+// Those of v, which stands at place k. The levels before it and those after it are counted; v itself lies
+// neither below nor above v.
+fn others(levels: &[u16], k: usize, v: u16) -> Sides
+    requires { (k < length levels.now) × (length levels.now ≤ 9) × AtMost 1_020 levels.now × (v ≡ get_or levels.now k 0) }
+    ensures { SidesAre v levels.now result.below result.above }
 {
-    let before = count_sides(t, 0, k, v, Sides { below: 0, above: 0 });
-    count_sides(t, k + 1, n, v, before)
+    let before = count_sides(levels, 0, k, v, Sides { below: 0, above: 0 });
+    count_sides(levels, k + 1, levels.len(), v, before)
 }
 
-// Those of v among the first `end` of t, where `sides` has those among the first `from`.
-fn count_sides(t: &[u16], from: usize, end: usize, v: u16, sides: Sides) -> Sides
-    requires from_le_end { (from ≤ end) × (end ≤ length t.now) × (end ≤ 9) × AtMost 1_020 (take end t.now) × (v ≤ 1_020) }
-    requires sides_are { SidesAre v (take from t.now) sides.below sides.above }
-    ensures { SidesAre v (take end t.now) result.below result.above }
+// Those of v among the first `end` levels, where `sides` has those among the first `from`. The places are
+// counted: a loop over a part of the slice is not unrolled.
+fn count_sides(levels: &[u16], from: usize, end: usize, v: u16, sides: Sides) -> Sides
+    requires from_le_end { (from ≤ end) × (end ≤ length levels.now) × (end ≤ 9) × AtMost 1_020 levels.now × (v ≤ 1_020) }
+    requires sides_are { SidesAre v (take from levels.now) sides.below sides.above }
+    ensures { SidesAre v (take end levels.now) result.below result.above }
 {
     let mut below = sides.below;
     let mut above = sides.above;
-    let mut k = from;
-    while k < end {
-        below += one_below(t[k], v);
-        above += one_below(v, t[k]);
-        k += 1;
+    for k in from..end {
+        below += one_below(levels[k], v);
+        above += one_below(v, levels[k]);
     }
-    Sides {
-        below: below,
-        above: above,
-    }
+    Sides { below, above }
 }
 
 // 1 where a lies below b, else 0. They are compared as signed numbers: for those the processor has an
@@ -114,8 +107,5 @@ fn one_below(a: u16, b: u16) -> u16
     requires { (a ≤ 1_020) × (b ≤ 1_020) }
     ensures { result ≡ one_below a b }
 {
-    if (a as i16) < (b as i16) {
-        return 1;
-    }
-    0
+    u16::from((a as i16) < (b as i16))
 }

@@ -6,12 +6,9 @@ use lib.IntN.{ℤ}
 use Rattle.units.specs.declared.Sixteenths.{Sixteenths}
 use Rattle.units.specs.declared.Picometres.{Picometres}
 use Rattle.units.specs.declared.Eighths.{Eighths}
-use Rattle.judge.specs.declared.Verdict.{Verdict}
-use Rattle.judge.specs.Judge.{JudgeIs}
-use Rattle.sample.specs.declared.Sampled.{Sampled}
-use Rattle.sample.specs.Cubic.{sampled, SampleIs}
-use Rattle.length.specs.declared.Sharpness.{Sharpness}
-use Rattle.length.specs.Length.{sharpness, LengthIs}
+use Rattle.judge.specs.Judge.{Verdict, JudgeIs}
+use Rattle.sample.specs.Cubic.{Sampled, sampled, SampleIs}
+use Rattle.length.specs.Length.{Sharpness, sharpness, LengthIs}
 
 -- an answer to the units is an answer to their numbers, and its length goes out as a plain number
 pub handed_on : {s s' : Sixteenths} {p p' : Picometres} {r : Sharpness} {q : ℕ} → s ≡ s' → p ≡ p' → q ≡ r.length.0 → LengthIs s p r → LengthIs s' p' (sharpness r.number q)

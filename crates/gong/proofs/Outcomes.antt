@@ -7,18 +7,14 @@ use Rattle.arithmetic.specs.Fractions.{fraction}
 use Rattle.units.specs.Units.{sixteenths, picometres, eighths}
 use Rattle.scan.specs.Scan.{Scanned, scanned, RowsIs, EndIs}
 use Rattle.scan.proofs.Outcomes.{one_rows, one_end}
-use Rattle.judge.specs.declared.Verdict.{Verdict}
-use Rattle.judge.specs.Judge.{verdict, JudgeIs}
+use Rattle.judge.specs.Judge.{Verdict, verdict, JudgeIs}
 use Rattle.judge.specs.Measure.{Measurement, measurement, MeasureIs}
 use Rattle.judge.proofs.Outcomes.{one_judge, one_measure}
-use Rattle.threshold.specs.declared.Threshold.{Threshold}
-use Rattle.threshold.specs.TwoMeans.{answered, TwoMeansIs}
+use Rattle.threshold.specs.TwoMeans.{Threshold, answered, TwoMeansIs}
 use Rattle.threshold.proofs.Outcomes.{one_two_means}
-use Rattle.sample.specs.declared.Sampled.{Sampled}
-use Rattle.sample.specs.Cubic.{sampled, SampleIs}
+use Rattle.sample.specs.Cubic.{Sampled, sampled, SampleIs}
 use Rattle.sample.proofs.Outcomes.{one_sample}
-use Rattle.length.specs.declared.Sharpness.{Sharpness}
-use Rattle.length.specs.Length.{sharpness, LengthIs}
+use Rattle.length.specs.Length.{Sharpness, sharpness, LengthIs}
 use Rattle.length.proofs.Outcomes.{one_length}
 
 -- any two outcomes that `gong_judge` is permitted, the number that it returns and the ratio that it writes, are equal

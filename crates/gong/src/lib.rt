@@ -15,7 +15,18 @@ ghost use Rattle.threshold.specs.TwoMeans.{answered, TwoMeansIs};
 ghost use Rattle.sample.specs.Cubic.{sampled, SampleIs};
 ghost use Rattle.length.specs.Length.{sharpness, LengthIs};
 
+use arithmetic::Fraction;
+use threshold::Resting;
 use units::{Eighths, Picometres, Sixteenths};
+
+// What stands at the pointers where no threshold is found.
+const NO_THRESHOLD: Resting = Resting {
+    rounds: 0,
+    value: Fraction {
+        numerator: 0,
+        denominator: 0,
+    },
+};
 
 // The median, three times: output receives pass three in eighths of a level, work pass two in
 // quarters.
@@ -29,7 +40,7 @@ pub extern "C" fn gong_filter(
 ) -> u8
     ensures { FilterIs levels.now width height output.old work.old (outcome result output.new work.new) }
 {
-    filter::filter(levels, width, height, output, work)
+    answers::number(filter::filter(levels, width, height, output, work))
 }
 
 // A scan begins, in memory that the caller lends, of a picture of `height` rows of `width` levels.
@@ -37,7 +48,7 @@ pub extern "C" fn gong_filter(
 pub extern "C" fn gong_scan_start(held: &mut [u16], width: usize, height: usize) -> u8
     ensures { StartIs held.old width height result held.new }
 {
-    memory::start(held, width, height)
+    answers::number(memory::start(held, width, height))
 }
 
 // Rows of a scan come: output receives the filtered rows that they complete, rows how many.
@@ -51,8 +62,8 @@ pub extern "C" fn gong_scan_rows(
     ensures { RowsIs held.old levels.now output.old (scanned result rows.new held.new output.new) }
 {
     let given = scan::rows(held, levels, output);
-    *rows = given.rows as u64;
-    given.number
+    *rows = given.unwrap_or(0) as u64;
+    answers::number(given)
 }
 
 // The end of a scan: output receives the filtered rows that are still due, rows how many.
@@ -61,8 +72,8 @@ pub extern "C" fn gong_scan_end(held: &mut [u16], output: &mut [u16], rows: &mut
     ensures { EndIs held.old output.old (scanned result rows.new held.new output.new) }
 {
     let last = scan::end(held, output);
-    *rows = last.rows as u64;
-    last.number
+    *rows = last.unwrap_or(0) as u64;
+    answers::number(last)
 }
 
 // Measuring: the picture filtered, and the ratio in hundredths.
@@ -78,8 +89,9 @@ pub extern "C" fn gong_measure(
     ensures { MeasureIs levels.now width height output.old work.old (measurement (verdict result ratio.new) output.new work.new) }
 {
     let measured = judge::measure(levels, width, height, output, work);
-    *ratio = measured.ratio;
-    measured.number
+    let (number, q) = judge::numbers(measured);
+    *ratio = q;
+    number
 }
 
 // The judge alone: N, M and m in eighths of a level, D, and the ratio in hundredths.
@@ -88,8 +100,9 @@ pub extern "C" fn gong_judge(count: u64, bright: u64, dark: u64, spread: u64, ra
     ensures { JudgeIs count (eighths bright) (eighths dark) spread (verdict result ratio.new) }
 {
     let judged = judge::judge(count, Eighths::of(bright), Eighths::of(dark), spread);
-    *ratio = judged.ratio;
-    judged.number
+    let (number, hundredths) = judge::numbers(judged);
+    *ratio = hundredths;
+    number
 }
 
 // Counting: filtered values in eighths of a level, by their whole levels.
@@ -97,7 +110,7 @@ pub extern "C" fn gong_judge(count: u64, bright: u64, dark: u64, spread: u64, ra
 pub extern "C" fn gong_count(values: &[u16], histogram: &mut [u32]) -> u8
     ensures { CountIs values.now histogram.old (tally result histogram.new) }
 {
-    threshold::count(values, histogram)
+    answers::number(threshold::count(values, histogram))
 }
 
 // The two means: the threshold at rest, numerator over denominator, and the rounds until then.
@@ -111,10 +124,11 @@ pub extern "C" fn gong_two_means(
     ensures { TwoMeansIs histogram.now (answered result rounds.new (fraction numerator.new denominator.new)) }
 {
     let found = threshold::two_means(histogram);
-    *rounds = found.rounds;
-    *numerator = found.value.numerator;
-    *denominator = found.value.denominator;
-    found.number
+    let rest = found.unwrap_or(NO_THRESHOLD);
+    *rounds = rest.rounds;
+    *numerator = rest.value.numerator;
+    *denominator = rest.value.denominator;
+    answers::number(found)
 }
 
 // A sample: x and y in sixteenths of a pixel, value in 1/67,108,864 levels.
@@ -130,10 +144,17 @@ pub extern "C" fn gong_sample(
     ensures { SampleIs levels.now width height (sixteenths x) (sixteenths y) (sampled result value.new) }
 {
     let sampled = sample::sample(levels, width, height, Sixteenths::of(x), Sixteenths::of(y));
-    // named, since the prover follows a signed number through a pointer from a local alone
-    let signed = sampled.value;
-    *value = signed;
-    sampled.number
+    // each case by itself, since the prover follows a signed number through a pointer from a local alone
+    match sampled {
+        Ok(signed) => {
+            *value = signed;
+            0
+        }
+        Err(refusal) => {
+            *value = 0;
+            refusal.number()
+        }
+    }
 }
 
 // The length of a sharpness: factor in sixteenths of a pixel, pixel and length in picometres.
@@ -142,6 +163,6 @@ pub extern "C" fn gong_length(factor: i64, pixel: u64, length: &mut u64) -> u8
     ensures { LengthIs (sixteenths factor) (picometres pixel) (sharpness result length.new) }
 {
     let answer = length::length(Sixteenths::of(factor), Picometres::of(pixel));
-    *length = answer.length.amount();
-    answer.number
+    *length = answer.unwrap_or(Picometres::of(0)).amount();
+    answers::number(answer)
 }

@@ -1,14 +1,14 @@
 -- Document 01, "The program": what is found at an offset of the input, and what a run comes to.
-use Rattle.std.specs.Prelude.{List, ℕ, ◌-◌, take, drop}
+use Rattle.std.specs.Prelude.{◌≡◌, List, ℕ, ◌-◌, take, drop, Option, None, Some, Result, Ok, Err}
+use Rattle.streams.specs.declared.Failed.{Failed}
+use Rattle.records.specs.declared.Faulty.{Faulty as Faulty-record}
 use Rattle.records.specs.declared.Record.TheVariants.{Picture as Record-as-Picture, Pixel as Record-as-Pixel}
-use Rattle.records.specs.declared.Record.TheVariants.{End as Record-as-End, Bad as Record-as-Bad}
 use Rattle.records.specs.Records.{RecordIs, Reading}
 use Rattle.gongspindle.specs.declared.look.Said.{Said}
 use Rattle.gongspindle.specs.declared.look.Said.TheVariants.{Picture, Pixel}
-use Rattle.gongspindle.specs.declared.look.Found.{Found}
-use Rattle.gongspindle.specs.declared.look.Found.TheVariants.{Good, End, Bad}
-use Rattle.gongspindle.specs.declared.Outcome.{Outcome}
-use Rattle.gongspindle.specs.declared.Outcome.TheVariants.{Whole, Faulty, Unwritten}
+use Rattle.gongspindle.specs.declared.look.Good.{Good}
+use Rattle.gongspindle.specs.declared.Stopped.{Stopped}
+use Rattle.gongspindle.specs.declared.Stopped.TheVariants.{Faulty, Unwritten}
 use Rattle.gongspindle.specs.Line.{LineIs}
 
 -- the bytes of the input from an offset up to, not at, another
@@ -19,19 +19,26 @@ part input start end = take (end - start) (drop start input)
 -- "for kind 3 `pixel` and the size": the record there is that size. The next one begins where it ends.
 abbrev pub SaidIs : List ℕ → ℕ → Said → ℕ → Type 0
 SaidIs input at (Picture side line) next =
-    (start : ℕ) × (RecordIs input at (Record-as-Picture side start next) × LineIs (part input start next) side line)
-SaidIs input at (Pixel size) next = RecordIs input at (Record-as-Pixel size next)
+    (start : ℕ) × (RecordIs input at (Ok (Some (Record-as-Picture side start next))) × LineIs (part input start next) side line)
+SaidIs input at (Pixel size) next = RecordIs input at (Ok (Some (Record-as-Pixel size next)))
 
--- a good record, and what its line says; or the end of the input; or a bad record
-abbrev pub FoundIs : List ℕ → ℕ → Found → Type 0
-FoundIs input at (Good said next) = SaidIs input at said next
-FoundIs input at End = RecordIs input at Record-as-End
-FoundIs input at (Bad number offset) = RecordIs input at (Record-as-Bad number offset)
+-- a good record, and what its line says; or the end of the input; or a faulty record
+abbrev pub FoundIs : List ℕ → ℕ → Result (Option Good) Faulty-record → Type 0
+FoundIs input at (Ok (Some good)) = SaidIs input at good.said good.next
+FoundIs input at (Ok None) = RecordIs input at (Ok None)
+FoundIs input at (Err f) = RecordIs input at (Err f)
+
+-- how a run stops at what a call below it fails with
+abbrev pub StopsAt : Faulty-record → Stopped → Type 0
+StopsAt f s = s ≡ Faulty f
+
+abbrev pub StopsUnwritten : Failed → Stopped → Type 0
+StopsUnwritten f s = s ≡ Unwritten f
 
 -- the input is read from its first byte on, record by record: "at the end `records` and their number", and that is how many good ones there
 -- are up to the end; "A faulty record gives `bad`, number, `at`, offset of its kind byte", and that is the one after the good ones. Of a
 -- run that could not write a line nothing is said: no contract can tell that a write failed.
-abbrev pub OutcomeIs : List ℕ → Outcome → Type 0
-OutcomeIs input (Whole good) = Reading input good 0 Record-as-End
-OutcomeIs input (Faulty number offset) = (good : ℕ) × Reading input good 0 (Record-as-Bad number offset)
-OutcomeIs input Unwritten = Unit {0}
+abbrev pub OutcomeIs : List ℕ → Result ℕ Stopped → Type 0
+OutcomeIs input (Ok good) = Reading input good 0 (Ok None)
+OutcomeIs input (Err (Faulty f)) = (good : ℕ) × Reading input good 0 (Err f)
+OutcomeIs input (Err (Unwritten failed)) = Unit {0}

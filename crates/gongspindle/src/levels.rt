@@ -1,15 +1,15 @@
 // What the levels of a picture come to (document 01, "The program").
-ghost use Rattle.std.specs.Prelude.{◌≡◌, length};
 ghost use Rattle.gongspindle.specs.Line.{SquarePicture, LineIs};
 
-use judge::Verdict;
-use threshold::Threshold;
+use crate::space;
+use judge::Unmeasured;
+use threshold::Resting;
 
 // What a picture's line says, besides its sides.
-#[derive(Drop)]
+#[derive(Clone, Copy)]
 pub(crate) struct Line {
-    pub(crate) verdict: Verdict,
-    pub(crate) threshold: Threshold,
+    pub(crate) verdict: Result<u64, Unmeasured>,
+    pub(crate) threshold: Resting,
 }
 
 // A picture is measured, what it was filtered to is counted, and the counts have a threshold: also
@@ -19,19 +19,13 @@ pub(crate) fn line_of(levels: &[u8], side: usize) -> Line
     ensures { LineIs levels.now side result }
 {
     let n = levels.len();
-    let mut output = value_space();
-    let mut work = value_space();
+    // as many values as the larger picture has
+    let mut output: [u16; 4_096] = space(0);
+    let mut work: [u16; 4_096] = space(0);
     let mut histogram = [0u32; 256];
     let verdict = judge::measure(levels, side, side, &mut output, &mut work);
-    // its number is 0: the histogram has 256 places, and what a picture was filtered to can be counted
-    threshold::count(&output[..n], &mut histogram);
-    let threshold = threshold::two_means(&histogram);
+    // neither is refused: the histogram has 256 places, and what a picture was filtered to can be counted
+    threshold::count(&output[..n], &mut histogram).unwrap();
+    let threshold = threshold::two_means(&histogram).unwrap();
     Line { verdict, threshold }
-}
-
-// As many values as the larger picture has: made by a function, which promises its length.
-fn value_space() -> [u16; 4_096]
-    ensures { 4_096 ≡ length result }
-{
-    [0; 4_096]
 }

@@ -4,42 +4,39 @@ ghost use Rattle.gongspindle.specs.Program.{FoundIs};
 
 use crate::levels;
 use crate::levels::Line;
-use records::Record;
+use records::{Faulty, Record};
 use units::Picometres;
 
 // What the line of a good record says.
-#[derive(Drop)]
+#[derive(Clone, Copy)]
 pub(crate) enum Said {
     Picture { side: usize, line: Line },
     Pixel { size: Picometres },
 }
 
-// A good record, by what its line says and where the next one begins; or the end of the input; or a
-// bad record.
-#[derive(Drop)]
-pub(crate) enum Found {
-    Good { said: Said, next: usize },
-    End,
-    Bad { number: u8, offset: usize },
+// A good record, by what its line says and where the next one begins.
+#[derive(Clone, Copy)]
+pub(crate) struct Good {
+    pub(crate) said: Said,
+    pub(crate) next: usize,
 }
 
-// The record at an offset, and what its line says.
-pub(crate) fn look(input: &[u8], at: usize) -> Found
+// The record at an offset, and what its line says; none where the input ends there.
+pub(crate) fn look(input: &[u8], at: usize) -> Result<Option<Good>, Faulty>
     ensures { FoundIs input.now at result }
 {
-    match records::record_at(input, at) {
-        Record::Picture { side, start, end } => {
+    match records::record_at(input, at)? {
+        Some(Record::Picture { side, start, end }) => {
             let line = levels::line_of(&input[start..end], side);
-            Found::Good {
+            Ok(Some(Good {
                 said: Said::Picture { side, line },
                 next: end,
-            }
+            }))
         }
-        Record::Pixel { size, end } => Found::Good {
+        Some(Record::Pixel { size, end }) => Ok(Some(Good {
             said: Said::Pixel { size },
             next: end,
-        },
-        Record::End => Found::End,
-        Record::Bad { number, offset } => Found::Bad { number, offset },
+        })),
+        None => Ok(None),
     }
 }

@@ -10,63 +10,72 @@ mod print;
 ghost use Rattle.std.specs.Prelude.{◌≡◌, length};
 ghost use Rattle.gongspindle.specs.Program.{OutcomeIs};
 
-use look::Found;
+use records::Faulty;
+use streams::Failed;
 
-// How a run went: all records are good, and so many; or one is faulty, and is the last that was read;
-// or a line could not be written.
-#[derive(Drop)]
-enum Outcome {
-    Whole { good: u64 },
-    Faulty { number: u8, offset: usize },
-    Unwritten,
+// Why a run stops before the end of its input: a record is faulty, and is the last that was read; or a
+// line could not be written.
+#[derive(Clone, Copy)]
+enum Stopped {
+    Faulty(Faulty),
+    Unwritten(Failed),
 }
 
-// The records, one after the other: each begins where the one before it ends.
-fn report<P: Print + Eprint>(rt: &P, input: &[u8]) -> Outcome
-    ensures { OutcomeIs input.now result }
-{
-    let mut at = 0;
-    let mut good: u64 = 0;
-    loop {
-        match look::look(input, at) {
-            Found::Good { said, next } => {
-                if !print::line(rt, said) {
-                    return Outcome::Unwritten;
-                }
-                at = next;
-                good += 1;
-            }
-            Found::End => return Outcome::Whole { good },
-            Found::Bad { number, offset } => return Outcome::Faulty { number, offset },
-        }
+impl From<Faulty> for Stopped {
+    ghost use Rattle.gongspindle.specs.Program.{StopsAt};
+
+    ghost from_gives = { StopsAt };
+
+    fn from(faulty: Faulty) -> Stopped {
+        Stopped::Faulty(faulty)
     }
 }
 
-// As many bytes as an input may have, and one more, which shows that there are too many: made by a
-// function, which promises its length.
-fn input_space() -> [u8; 32_769]
-    ensures { 32_769 ≡ length result }
+impl From<Failed> for Stopped {
+    ghost use Rattle.gongspindle.specs.Program.{StopsUnwritten};
+
+    ghost from_gives = { StopsUnwritten };
+
+    fn from(failed: Failed) -> Stopped {
+        Stopped::Unwritten(failed)
+    }
+}
+
+// The records, one after the other: each begins where the one before it ends. How many there are.
+fn report<P: Print + Eprint>(rt: &P, input: &[u8]) -> Result<u64, Stopped>
+    ensures { OutcomeIs input.now result }
 {
-    [0; 32_769]
+    let mut at = 0;
+    let mut good = 0u64;
+    // a `while`, since where a record begins comes of the one before it
+    while let Some(record) = look::look(input, at)? {
+        print::line(rt, record.said)?;
+        at = record.next;
+        good += 1;
+    }
+    Ok(good)
+}
+
+// A space of zeros: made by a function, which promises its length, so that no check looks into thousands of them.
+fn space<T: Copy + Drop, const N: usize>(zero: T) -> [T; N]
+    ensures { N ≡ length result }
+{
+    [zero; N]
 }
 
 // The whole input is read before anything is printed: one that is too long gives a single line, and
 // one that cannot be read to its end gives none. What could not be read or written has been said on
 // standard error by then.
 fn main(rt: HostRuntime) {
-    let mut space = input_space();
-    let got = streams::read(&mut rt.stdin(), &rt, &mut space);
-    if got.failed {
+    // as many bytes as an input may have, and one more, which shows that there are too many
+    let mut input: [u8; 32_769] = space(0);
+    let Ok(count) = streams::read(&mut rt.stdin(), &rt, &mut input) else {
         return;
-    }
+    };
     // the last line is the last thing done: whether it was written changes nothing more
-    match report(&rt, &space[..got.count]) {
-        Outcome::Whole { good } => {
-            print::records(&rt, good);
-        }
-        Outcome::Faulty { number, offset } => {
-            print::bad(&rt, number, offset);
-        }
-        Outcome::Unwritten => {}
-    }
+    let _ = match report(&rt, &input[..count]) {
+        Ok(good) => print::records(&rt, good),
+        Err(Stopped::Faulty(faulty)) => print::bad(&rt, faulty),
+        Err(Stopped::Unwritten(failed)) => Err(failed),
+    };
 }

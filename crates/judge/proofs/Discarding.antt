@@ -14,10 +14,9 @@ use Rattle.units.specs.declared.Eighths.{Eighths}
 use Rattle.filter.specs.Filter.{pass_three}
 use Rattle.arithmetic.specs.declared.Fraction.{Fraction}
 use Rattle.arithmetic.specs.Fractions.{fraction, NotMore}
-use Rattle.judge.specs.declared.Verdict.{Verdict}
 use Rattle.judge.specs.Extremes.{bright, dark}
 use Rattle.judge.specs.Noise.{inner_pixels}
-use Rattle.judge.specs.Judge.{InRange, BrightInRange, DarkInRange, Reaches, RatioIs, refused, JudgeIs}
+use Rattle.judge.specs.Judge.{Verdict, InRange, BrightInRange, DarkInRange, Reaches, RatioIs, refused, JudgeIs}
 use Rattle.judge.specs.Measure.{Judged, Measurement, Measured}
 use Rattle.judge.specs.AnnexA.{plus, times, squared, span, deviation_squared, AverageInRange, RatioFrom, RatioTen, Unfit, Discarded, Exactly}
 use Rattle.judge.proofs.Ratios.{reaches_falls}

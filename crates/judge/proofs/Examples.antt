@@ -14,10 +14,9 @@ use Rattle.arithmetic.specs.Sums.{sum}
 use Rattle.arithmetic.proofs.Greatest.{by_neighbours}
 use Rattle.arithmetic.proofs.Computed.{when, unless, EveryRow, every_row}
 use Rattle.units.specs.Units.{eighths}
-use Rattle.judge.specs.declared.Verdict.{Verdict}
 use Rattle.judge.specs.Extremes.{maximum, minimum, tile, over_tiles}
 use Rattle.judge.specs.Noise.{counts}
-use Rattle.judge.specs.Judge.{InRange, Rated, verdict, refused, JudgeIs}
+use Rattle.judge.specs.Judge.{Verdict, InRange, Rated, verdict, refused, JudgeIs}
 use Rattle.judge.proofs.Ratios.{reaches_falls}
 use Rattle.judge.proofs.Outcomes.{one_judge}
 

@@ -1,5 +1,5 @@
--- What the judge's tests say, and the verdict that follows from them; and that a picture's own numbers are always taken.
--- Assumes nothing.
+-- What the judge's tests say, and the verdict that follows from them; and that a picture's own numbers are always taken, and its verdict on
+-- them is the picture's. Assumes nothing.
 use mathlib.Core.Path.{◌≡◌, ap, ◌∙◌}
 use mathlib.Core.List.{List}
 use mathlib.Core.Logic.{inl, inr}
@@ -10,10 +10,9 @@ use Rattle.answers.specs.Refusals.{Unless}
 use Rattle.answers.proofs.Refusals.{goes_on, carried}
 use Rattle.units.specs.Units.{eighths}
 use Rattle.units.specs.declared.Eighths.{Eighths}
-use Rattle.judge.specs.declared.Verdict.{Verdict}
 use Rattle.judge.specs.Extremes.{maximum, minimum, bright, dark}
 use Rattle.judge.specs.Noise.{inner_pixels, spread_of}
-use Rattle.judge.specs.Judge.{InRange, BrightInRange, DarkInRange, RatioIs, Tested, refused, JudgeIs}
+use Rattle.judge.specs.Judge.{Verdict, InRange, BrightInRange, DarkInRange, RatioIs, Tested, refused, JudgeIs}
 use Rattle.judge.specs.Measure.{Judged}
 use Rattle.judge.specs.Asked.{Tiled}
 use Rattle.judge.proofs.Maxima.{maximum_most, minimum_most}

@@ -3,11 +3,10 @@ pub mod Tiles
 pub mod Inner
 pub mod Spreads
 pub mod InnerRows
-pub mod Digits
 pub mod Ratios
 pub mod Judging
-pub mod Measuring
 pub mod Outcomes
 pub mod Discarding
 pub mod Drawn
 pub mod Examples
+pub mod Digits

@@ -1,21 +1,33 @@
 -- The judge and measuring are determined: any two answers that a promise permits are equal. And what a caller reads off a promise: a
 -- picture that passes 1 to 5 is measured, and one without noise whose extremes pass is discarded by 8. Assumes nothing.
-use mathlib.Core.Path.{◌≡◌, refl, ap}
+use mathlib.Core.Path.{◌≡◌, refl, sym, ap}
 use mathlib.Core.Logic.{inl, inr}
 use mathlib.Core.List.{List}
 use Prim.Native.Nat.{ℕ, ◌-◌}
 use lib.ListN.{length}
+use Rattle.std.specs.Prelude.{Result, Ok, Err}
 use Rattle.arithmetic.specs.Signed.{nat_of}
+use Rattle.answers.proofs.Numbers.{one_refusal, some_number}
+use Rattle.judge.specs.declared.Unmeasured.{Unmeasured}
 use Rattle.answers.proofs.Refusals.{past, alike, together}
 use Rattle.units.specs.declared.Eighths.{Eighths}
 use Rattle.filter.specs.Filter.{pass_three}
 use Rattle.filter.proofs.Outcomes.{Fits}
-use Rattle.judge.specs.declared.Verdict.{Verdict}
 use Rattle.judge.specs.Extremes.{bright, dark}
 use Rattle.judge.specs.Noise.{inner_pixels}
-use Rattle.judge.specs.Judge.{InRange, BrightInRange, DarkInRange, Rated, verdict, refused, JudgeIs}
+use Rattle.judge.specs.Judge.{Verdict, InRange, BrightInRange, DarkInRange, Rated, verdict, verdict_of, refused, JudgeIs}
 use Rattle.judge.proofs.Ratios.{one_ratio}
 use Rattle.judge.specs.Measure.{MeasurableSide, Judged, Measurement, measurement, Measured, MeasureIs}
+
+-- a verdict is that of one answer only: so what a promise determines of a verdict, it determines of the answer
+pub one_verdict : (a b : Result ℕ Unmeasured) → verdict_of a ≡ verdict_of b → a ≡ b
+one_verdict (Ok q) (Ok q') e = ap Ok (ap (λ (v : Verdict). v.ratio) e)
+one_verdict (Ok q) (Err u) e = absurd (some_number u.why (sym (ap (λ (v : Verdict). v.number) e)))
+one_verdict (Err u) (Ok q) e = absurd (some_number u.why (ap (λ (v : Verdict). v.number) e))
+one_verdict (Err u) (Err u') e =
+    let why = one_refusal u.why u'.why (ap (λ (v : Verdict). v.number) e) in
+    let ratio = ap (λ (v : Verdict). v.ratio) e in
+    λ i. Err (record { why = why i; ratio = ratio i })
 
 -- two verdicts past all tests have one ratio, and so one number
 module _ (N : ℕ) (M m : Eighths) (D : ℕ) (v v' : Verdict) where

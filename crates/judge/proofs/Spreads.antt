@@ -1,13 +1,14 @@
 -- Laws of the noise: D in natural numbers, that it is never below 0 and at most 2^62, and the sums that the loops gather for it.
 -- Assumes nothing.
-use mathlib.Core.Path.{◌≡◌, refl, sym, subst}
+use mathlib.Core.Path.{◌≡◌, refl, sym}
 use mathlib.Core.Logic.{⊎_elim}
 use mathlib.Core.List.{List}
 use Prim.Native.Nat.{ℕ, zero, suc, ◌+◌, ◌-◌, ◌*◌, ◌<◌, ◌≤◌, ◌^◌}
-use native.Mathlib.Nat.{mul-le-mul, le_trans, le_antisymm}
+use native.Mathlib.Nat.{mul-le-mul, le_trans}
 use native.Mathlib.Numerals.{add-one}
 use native.Mathlib.Omega.{arith}
 use lib.IntN.{pos, ◌-ℤ◌}
+use Rattle.std.specs.Int.{abs_diff}
 use Rattle.arithmetic.specs.Signed.{nat_of, square}
 use Rattle.arithmetic.specs.Lists.{AtMost}
 use Rattle.arithmetic.specs.Sums.{sum}
@@ -16,18 +17,18 @@ use Rattle.arithmetic.proofs.Differences.{pos_minus, sub_pos, sub_neg}
 use Rattle.arithmetic.proofs.Sums.{sum_none, sum_more, sum_goes_on, square_of_sum}
 use Rattle.arithmetic.proofs.SignedSums.{over_natural, over_minus}
 use Rattle.judge.specs.Noise.{counts, inner_pixels, difference, sum_inner, spread_of}
-use Rattle.judge.specs.Asked.{dist, light, flat, inner_place, squared_at, Sums}
+use Rattle.judge.specs.Asked.{light, flat, inner_place, squared_at, Sums}
 use Rattle.judge.proofs.Inner.{over_inner}
 
 -- the square of a difference is the square of how far the two are apart
-square_apart : (a b : ℕ) → square (pos a -ℤ pos b) ≡ pos (dist a b * dist a b)
+square_apart : (a b : ℕ) → square (pos a -ℤ pos b) ≡ pos (abs_diff a b * abs_diff a b)
 square_apart a b = rw (pos_minus a b) (⊎_elim
-    (λ (h : b ≤ a). let e : dist a b ≡ a - b = omega arith in rw (sub_pos a b h, e))
-    (λ (h : a < b). let e : dist a b ≡ suc (b - suc a) = omega arith in rw (sub_neg a b h, e))
+    (λ (h : b ≤ a). let e : abs_diff a b ≡ a - b = omega arith in rw (sub_pos a b h, e))
+    (λ (h : a < b). let e : abs_diff a b ≡ suc (b - suc a) = omega arith in rw (sub_neg a b h, e))
     (le_or_lt b a))
 
 -- two sums are no farther apart than their numbers are together
-sums_apart : (n : ℕ) (f g : ℕ → ℕ) → dist (sum n f) (sum n g) ≤ sum n (λ k. dist (f k) (g k))
+sums_apart : (n : ℕ) (f g : ℕ → ℕ) → abs_diff (sum n f) (sum n g) ≤ sum n (λ k. abs_diff (f k) (g k))
 unfolding sum
 sums_apart zero f g = omega arith
 sums_apart (suc n) f g = omega (arith, sums_apart n f g)
@@ -40,13 +41,13 @@ module _ (n : ℕ) (l f : ℕ → ℕ) where
 
   -- how far the sum of d is from 0
   abbrev away_of : ℕ
-  away_of = dist (sum n l) (sum n f)
+  away_of = abs_diff (sum n l) (sum n f)
 
   -- the square of the sum is at most n times the sum of the squares
   never_wraps : away_of * away_of ≤ n * squares_of
   never_wraps =
       let apart = sums_apart n l f in
-      le_trans (mul-le-mul apart apart) (square_of_sum (λ k. dist (l k) (f k)) n)
+      le_trans (mul-le-mul apart apart) (square_of_sum (λ k. abs_diff (l k) (f k)) n)
 
 -- the three sums, of any such pixels
 module _ (l f : ℕ → ℕ) where
@@ -62,24 +63,20 @@ module _ (l f : ℕ → ℕ) where
         flats_most = omega arith;
       }
 
-  -- with one pixel more, where a is 8 times its level and d how far the filtered value is from it
-  pub sums_more : {k squares lights flats a d : ℕ} → f k ≤ 2040 → (a ≡ l k) × (a ≤ 2040) → d ≡ dist a (f k)
-      → Sums l f k squares lights flats → Sums l f (k + 1) (squares + d * d) (lights + a) (flats + f k)
-  sums_more {k} {squares} {lights} {flats} {a} {d} small lit apart s =
-      let near : d ≤ 2040 = omega (arith, lit.1, small) in
-      let is : d ≡ dist (l k) (f k) = rw lit.0 at apart in
+  -- with one pixel more, where a is 8 times its level, v its filtered value and d how far these are apart
+  pub sums_more : {k squares lights flats a v d : ℕ} → (a ≡ l k) × (a ≤ 2040) → (v ≡ f k) × (v ≤ 2040) → d ≡ abs_diff a v
+      → Sums l f k squares lights flats → Sums l f (k + 1) (squares + d * d) (lights + a) (flats + v)
+  sums_more {k} {squares} {lights} {flats} {a} {v} {d} lit flat apart s =
+      let near : d ≤ 2040 = omega (arith, lit.1, flat.1) in
+      let is : d ≡ abs_diff (l k) (f k) = rw (lit.0, flat.0) at apart in
       record {
         squares_is = rw (sum_more k (squared_at l f), ← s.squares_is, ← is);
         lights_is = rw (sum_more k l, ← s.lights_is, ← lit.0);
-        flats_is = rw (sum_more k f, ← s.flats_is);
+        flats_is = rw (sum_more k f, ← s.flats_is, ← flat.0);
         squares_most = omega (arith, s.squares_most, mul-le-mul near near);
         lights_most = omega (arith, s.lights_most, lit.1);
-        flats_most = omega (arith, s.flats_most, small);
+        flats_most = omega (arith, s.flats_most, flat.1);
       }
-
-  -- where a loop ends
-  pub sums_done : {k n squares lights flats : ℕ} → k ≤ n → n ≤ k → Sums l f k squares lights flats → Sums l f n squares lights flats
-  sums_done {k} {n} {squares} {lights} {flats} h g s = subst (λ (m : ℕ). Sums l f m squares lights flats) (le_antisymm h g) s
 
   -- with the next n pixels, of which the k-th has l' k and f' k
   pub sums_joined : (l' f' : ℕ → ℕ) (at n : ℕ) → ((k : ℕ) → k < n → l' k ≡ l (at + k)) → ((k : ℕ) → k < n → f' k ≡ f (at + k))
@@ -99,14 +96,14 @@ module _ (l f : ℕ → ℕ) where
   all_sums : ((k : ℕ) → l k ≤ 2040) → ((k : ℕ) → f k ≤ 2040) → (n : ℕ) → Sums l f n (squares_of n l f) (sum n l) (sum n f)
   unfolding sum
   all_sums bytes small zero = sums_none
-  all_sums bytes small (suc n) = rw add-one at (sums_more (small n) (refl, bytes n) refl (all_sums bytes small n))
+  all_sums bytes small (suc n) = rw add-one at (sums_more (refl, bytes n) (refl, small n) refl (all_sums bytes small n))
 
   -- the product has room
   pub room : {n squares lights flats : ℕ} → Sums l f n squares lights flats → n ≤ 1048576 → n * squares ≤ 2 ^ 62
   room {n} {squares} s h = let all : squares ≤ 1048576 * 4161600 = omega (arith, s.squares_most) in omega (arith, mul-le-mul h all)
 
   -- and the subtraction never wraps
-  pub no_wrap : {n squares lights flats away : ℕ} → Sums l f n squares lights flats → away ≡ dist lights flats → away * away ≤ n * squares
+  pub no_wrap : {n squares lights flats away : ℕ} → Sums l f n squares lights flats → away ≡ abs_diff lights flats → away * away ≤ n * squares
   no_wrap {n} s is = rw (is, s.squares_is, s.lights_is, s.flats_is) (never_wraps n l f)
 
 -- ---- D of a picture: the pixels are those of it that count
@@ -155,6 +152,6 @@ module _ (w h : ℕ) (levels filtered : List ℕ) where
       rw in_naturals (omega (arith, room (light_at w levels) (flat_at w filtered) all few))
 
   -- it is what the code makes of the sums of all N
-  pub is_spread : {squares lights flats away : ℕ} → Sums (light_at w levels) (flat_at w filtered) N squares lights flats → away ≡ dist lights flats
+  pub is_spread : {squares lights flats away : ℕ} → Sums (light_at w levels) (flat_at w filtered) N squares lights flats → away ≡ abs_diff lights flats
       → pos (N * squares - away * away) ≡ spread_of w h levels filtered
   is_spread s is = rw (is, s.squares_is, s.lights_is, s.flats_is) (sym in_naturals)

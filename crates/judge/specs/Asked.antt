@@ -1,8 +1,11 @@
 -- What the functions inside the crate ask of what they are given, and what their loops have gathered. No promise cites this.
 use Rattle.std.specs.Prelude.{◌≡◌, List, ℕ, ◌+◌, ◌-◌, ◌*◌, ◌/◌, ◌%◌, ◌≤◌, length, get_or, take, drop}
+use Rattle.std.specs.Int.{abs_diff}
+use Rattle.answers.specs.declared.Refusal.{Refusal}
 use Rattle.arithmetic.specs.Lists.{AtMost, joined}
 use Rattle.arithmetic.specs.Sums.{sum}
 use Rattle.picture.specs.Picture.{Side}
+use Rattle.judge.specs.declared.Unmeasured.{Unmeasured}
 use Rattle.judge.specs.Measure.{MeasurableSide}
 
 -- a filtered picture that can be cut into tiles, and has pixels that count
@@ -16,10 +19,6 @@ pub record Tiled (w h : ℕ) (filtered : List ℕ) : Type 0 where
 unfoldable pub part : ℕ → ℕ → ℕ → ℕ → List ℕ → List ℕ
 part w columns rows start filtered = joined rows (λ j. take columns (drop (start + j * w) filtered))
 
--- the sum of what f makes of four parts side by side
-unfoldable pub band_of : (List ℕ → ℕ) → ℕ → ℕ → ℕ → ℕ → List ℕ → ℕ
-band_of f w columns rows start filtered = sum 4 (λ a. f (part w columns rows (start + a * columns) filtered))
-
 -- such a part has pixels, and lies in the picture
 pub record Part (w columns rows start : ℕ) (filtered : List ℕ) : Type 0 where
   pub some_columns : 1 ≤ columns
@@ -28,24 +27,11 @@ pub record Part (w columns rows start : ℕ) (filtered : List ℕ) : Type 0 wher
   pub inside : start + (rows - 1) * w + columns ≤ length filtered
   pub long : length filtered ≤ 1_048_576
 
--- so do four side by side
-pub record Band (w columns rows start : ℕ) (filtered : List ℕ) : Type 0 where
-  pub some_columns : 1 ≤ columns
-  pub some_rows : 1 ≤ rows
-  pub four : w ≡ 4 * columns
-  pub row_long : w ≤ 1_024
-  pub inside : start + rows * w ≤ length filtered
-  pub long : length filtered ≤ 1_048_576
-
 -- at most 1,024 levels, and the same number of filtered values, each at most 2,040
 pub record SamePixels (levels filtered : List ℕ) : Type 0 where
   pub same : length levels ≡ length filtered
   pub long : length filtered ≤ 1_024
   pub small : AtMost 2_040 filtered
-
--- how far two numbers are apart
-abbrev pub dist : ℕ → ℕ → ℕ
-dist a b = (a - b) + (b - a)
 
 -- what stands at pixel k: 8 times the level, and the filtered eighths
 abbrev pub light : List ℕ → ℕ → ℕ
@@ -60,7 +46,7 @@ inner_place w k = (k / (w - 6) + 3) * w + (k % (w - 6) + 3)
 
 -- d² at the k-th of some pixels, of which l k is 8 times the level and f k the filtered eighths
 abbrev pub squared_at : (ℕ → ℕ) → (ℕ → ℕ) → ℕ → ℕ
-squared_at l f k = dist (l k) (f k) * dist (l k) (f k)
+squared_at l f k = abs_diff (l k) (f k) * abs_diff (l k) (f k)
 
 -- the three sums over n such pixels: of d², and of the two terms whose difference d is
 pub record Sums (l f : ℕ → ℕ) (n squares lights flats : ℕ) : Type 0 where
@@ -70,3 +56,7 @@ pub record Sums (l f : ℕ → ℕ) (n squares lights flats : ℕ) : Type 0 wher
   pub squares_most : squares ≤ n * 4_161_600
   pub lights_most : lights ≤ n * 2_040
   pub flats_most : flats ≤ n * 2_040
+
+-- a refusal by which no ratio is found
+abbrev pub Unrated : Refusal → Unmeasured → Type 0
+Unrated why u = u ≡ record { why = why; ratio = 0 }

@@ -1,9 +1,10 @@
 -- Document 01, "Extremes and noise", and the numbers 6 to 9 and 15 of its table: the judge.
-use Rattle.std.specs.Prelude.{◌≡◌, ◌⊎◌, ℕ, ◌+◌, ◌-◌, ◌*◌, ◌^◌, ◌≤◌}
+use Rattle.std.specs.Prelude.{◌≡◌, ◌⊎◌, ℕ, ◌+◌, ◌-◌, ◌*◌, ◌^◌, ◌≤◌, Result, Ok, Err}
+use Rattle.answers.specs.Numbers.{number_of}
 use Rattle.answers.specs.Refusals.{Unless}
 use Rattle.arithmetic.specs.Greatest.{Greatest}
 use Rattle.units.specs.declared.Eighths.{Eighths}
-use Rattle.judge.specs.declared.Verdict.{Verdict}
+use Rattle.judge.specs.declared.Unmeasured.{Unmeasured}
 
 -- "N 1 to 1,048,576; M, m at most 32,640; D at most 2^62"
 pub record InRange (N : ℕ) (M m : Eighths) (D : ℕ) : Type 0 where
@@ -28,6 +29,11 @@ Reaches N span D q = (q + 138) * (q + 138) * 256 * D ≤ 10_000 * (span * span) 
 abbrev pub RatioIs : ℕ → ℕ → ℕ → ℕ → Type 0
 RatioIs N span D q = Greatest (Reaches N span D) q ⊎ (((k : ℕ) → ¬ Reaches N span D k) × (q ≡ 0))
 
+-- what comes back: the table's number, and the ratio in hundredths
+pub record Verdict : Type 0 where
+  pub number : ℕ
+  pub ratio : ℕ
+
 -- "9 | q < 1,000", "0 | done"; and "9 also returns q". (M and m are in range here, so that M − m is at least 11,520.)
 pub record Rated (N : ℕ) (M m : Eighths) (D : ℕ) (v : Verdict) : Type 0 where
   pub ratio : RatioIs N (M.0 - m.0) D v.ratio
@@ -49,6 +55,11 @@ verdict n q = record { number = n; ratio = q }
 
 abbrev pub refused : ℕ → Verdict
 refused n = verdict n 0
+
+-- "a definition that gives this paper's number and values for each of the enum's cases": done, with the ratio; or refused
+abbrev pub verdict_of : Result ℕ Unmeasured → Verdict
+verdict_of (Ok q) = verdict 0 q
+verdict_of (Err u) = verdict (number_of u.why) u.ratio
 
 -- "Measuring, and the judge, give back the number and q."
 abbrev pub JudgeIs : ℕ → Eighths → Eighths → ℕ → Verdict → Type 0

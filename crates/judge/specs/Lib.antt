@@ -3,5 +3,4 @@ pub mod Noise
 pub mod Judge
 pub mod Measure
 pub mod AnnexA
-pub mod Wide
 pub mod Asked

@@ -2,10 +2,9 @@
 use Rattle.std.specs.Prelude.{◌≡◌, List, ℕ, ◌%◌, ◌≤◌, length, pos}
 use Rattle.answers.specs.Refusals.{Unless}
 use Rattle.filter.specs.Filter.{pass_three, Sized, Filtered, outcome}
-use Rattle.judge.specs.declared.Verdict.{Verdict}
 use Rattle.judge.specs.Extremes.{bright, dark}
 use Rattle.judge.specs.Noise.{inner_pixels, spread_of}
-use Rattle.judge.specs.Judge.{InRange, JudgeIs, refused}
+use Rattle.judge.specs.Judge.{InRange, Verdict, JudgeIs, refused}
 
 -- "w and h must be multiples of 4"; "5 is also given when a side is below 8" (document 02, P3)
 abbrev pub MeasurableSide : ℕ → Type 0

@@ -11,8 +11,7 @@ use lib.IntN.{pos}
 use Rattle.arithmetic.proofs.Greatest.{by_neighbours}
 use Rattle.arithmetic.proofs.Computed.{when, EveryRow, every_row}
 use Rattle.units.specs.Units.{sixteenths, picometres}
-use Rattle.length.specs.declared.Sharpness.{Sharpness}
-use Rattle.length.specs.Length.{sharpness, LengthIs}
+use Rattle.length.specs.Length.{Sharpness, sharpness, LengthIs}
 use Rattle.length.proofs.Laws.{falling, Ranged, is_the_length}
 use Rattle.length.proofs.Outcomes.{one_length}
 

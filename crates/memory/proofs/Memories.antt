@@ -1,11 +1,11 @@
 -- A scan's memory: what stands where in it, and what is told of it. Assumes nothing.
-use mathlib.Core.Path.{◌≡◌, refl, sym, ap, ◌∙◌}
+use mathlib.Core.Path.{◌≡◌, refl, ap, ◌∙◌}
 use mathlib.Core.Bool.{Bool, true, false}
 use mathlib.Core.List.{List, [], ◌∷◌, ◌++◌}
 use mathlib.Core.Logic.{inl, inr}
-use Prim.Native.Nat.{ℕ, ◌+◌, ◌-◌, ◌≤◌, ◌<◌}
+use Prim.Native.Nat.{ℕ, ◌+◌, ◌-◌, ◌≤◌}
 use native.Mathlib.Omega.{arith}
-use lib.ListN.{length, get_or, take, drop, set, length-append, length-take, length-drop, length-replicate, get_or-replicate}
+use lib.ListN.{length, take, drop, set, length-append, length-take, length-drop, length-replicate}
 use lib.Seq.{take_at, drop-drop}
 use Rattle.arithmetic.specs.Lists.{AtMost}
 use Rattle.answers.specs.Refusals.{Unless}
@@ -85,7 +85,3 @@ length_memory w h k rows past long = let all = length-append rows past in omega 
 pub length_zeros : (n : ℕ) → length (zeros n) ≡ n
 unfolding zeros
 length_zeros n = length-replicate n 0
-
-pub zero_at : (n i : ℕ) → i < n → 0 ≡ get_or (zeros n) i 0
-unfolding zeros
-zero_at n i h = sym (get_or-replicate n i 0 0 h)

@@ -4,9 +4,10 @@
 
 ghost use Rattle.std.specs.Prelude.{◌≡◌, true, false, ◌≤◌, length, drop};
 ghost use Rattle.answers.specs.Refusals.{Unless};
+ghost use Rattle.answers.specs.Numbers.{told};
 ghost use Rattle.memory.specs.Memory.{memory, zeros, Ranges, Begun, StartIs};
 
-use answers::table;
+use answers::Refusal;
 use arithmetic::values;
 
 // How many numbers it has: width, height, how many rows came, and six rows of up to 1,024. All zeros is
@@ -15,26 +16,14 @@ pub const LENGTH: usize = 6_147;
 
 // A scan begins, of a picture of `height` rows of `width` levels; what was held is dropped. Refused by 1,
 // with nothing changed.
-pub fn start(held: &mut [u16], width: usize, height: usize) -> u8
-    ensures { StartIs held.old width height result held.new }
+pub fn start(held: &mut [u16], width: usize, height: usize) -> Result<(), Refusal>
+    ensures { StartIs held.old width height (told result) held.new }
 {
-    if held.len() < LENGTH {
-        return table::SIDE_OUT_OF_RANGE;
-    }
-    if width < 1 {
-        return table::SIDE_OUT_OF_RANGE;
-    }
-    if 1_024 < width {
-        return table::SIDE_OUT_OF_RANGE;
-    }
-    if height < 1 {
-        return table::SIDE_OUT_OF_RANGE;
-    }
-    if 1_024 < height {
-        return table::SIDE_OUT_OF_RANGE;
+    if held.len() < LENGTH || width < 1 || 1_024 < width || height < 1 || 1_024 < height {
+        return Err(Refusal::SideOutOfRange);
     }
     reset(held, width, height);
-    table::DONE
+    Ok(())
 }
 
 // Writes the sides, that no row came, and zeros for the rows; what lies past them stays.
@@ -42,21 +31,10 @@ fn reset(held: &mut [u16], width: usize, height: usize)
     requires { (6_147 ≤ length held.old) × (width ≤ 1_024) × (height ≤ 1_024) }
     ensures { held.new ≡ memory width height 0 (zeros 6_144) (drop 6_147 held.old) }
 {
-    clear(&mut held[3..6_147]);
+    held[3..6_147].fill(0);
     held[0] = width as u16;
     held[1] = height as u16;
     held[2] = 0;
-}
-
-// Sets every element to 0.
-fn clear(part: &mut [u16])
-    ensures { part.new ≡ zeros (length part.old) }
-{
-    let mut i = 0;
-    while i < part.len() {
-        part[i] = 0;
-        i += 1;
-    }
 }
 
 // Whether a good start has begun this memory: it is long enough, its sides are a picture's, and the
@@ -67,18 +45,9 @@ pub fn begun(held: &[u16]) -> bool
     if held.len() < LENGTH {
         return false;
     }
-    let width = held[0] as usize;
-    let height = held[1] as usize;
-    if width < 1 {
-        return false;
-    }
-    if 1_024 < width {
-        return false;
-    }
-    if height < 1 {
-        return false;
-    }
-    if 1_024 < height {
+    let width = usize::from(held[0]);
+    let height = usize::from(held[1]);
+    if width < 1 || 1_024 < width || height < 1 || 1_024 < height {
         return false;
     }
     in_range(&held[3..6_147], width)

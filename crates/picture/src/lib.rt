@@ -3,28 +3,21 @@
 #![tactic(auto)]
 
 ghost use Rattle.std.specs.Prelude.{◌≡◌};
+ghost use Rattle.answers.specs.Numbers.{told};
 ghost use Rattle.picture.specs.Picture.{Shaped};
 
-use answers::table;
+use answers::Refusal;
 
-// The number that a picture's sides and how many levels are lent for it decide: 1, 2, or 0.
-pub fn shape(levels: usize, width: usize, height: usize) -> u8
-    ensures { Shaped levels width height (λ n. result ≡ n) (result ≡ 0) }
+// Whether a picture's sides and how many levels are lent for it are as they must be. Refused by 1 and 2.
+pub fn shape(levels: usize, width: usize, height: usize) -> Result<(), Refusal>
+    ensures { Shaped levels width height (λ n. told result ≡ n) (told result ≡ 0) }
 {
-    if width < 1 {
-        return table::SIDE_OUT_OF_RANGE;
-    }
-    if 1_024 < width {
-        return table::SIDE_OUT_OF_RANGE;
-    }
-    if height < 1 {
-        return table::SIDE_OUT_OF_RANGE;
-    }
-    if 1_024 < height {
-        return table::SIDE_OUT_OF_RANGE;
+    let side = 1..=1_024;
+    if !side.contains(&width) || !side.contains(&height) {
+        return Err(Refusal::SideOutOfRange);
     }
     if levels != width * height {
-        return table::WRONG_LEVELS;
+        return Err(Refusal::WrongLevels);
     }
-    table::DONE
+    Ok(())
 }

@@ -2,17 +2,14 @@
 #![tactic(auto)]
 
 ghost use Rattle.std.specs.Prelude.{◌≡◌, ◌+◌, ◌≤◌, length};
-ghost use Rattle.answers.specs.Refusals.{Unless};
 ghost use Rattle.arithmetic.specs.Bytes.{four_bytes};
-ghost use Rattle.records.specs.Records.{Known, body_length, answer_of, by_kind, RecordIs};
+ghost use Rattle.records.specs.Records.{KindIs, byte_of, body_length, good_answer, by_kind, RecordIs};
 ghost use Rattle.units.specs.Units.{picometres};
 
-use answers::table;
-use arithmetic::bytes;
+use answers::Refusal;
 use units::Picometres;
 
-// What begins at an offset of the input. A body lies from `start` up to, not at, `end`, where the next
-// record begins.
+// A good record. Its body lies from `start` up to, not at, `end`, where the next record begins.
 #[derive(Clone, Copy)]
 pub enum Record {
     // A picture of `side` rows of `side` levels; the body is its levels.
@@ -26,80 +23,102 @@ pub enum Record {
         size: Picometres,
         end: usize,
     },
-    // Nothing: the input ends here.
-    End,
-    // A record that is refused, by 16 or 17, with the offset of its kind byte; or an input that is
-    // too long, by 18, with 32,768.
-    Bad {
-        number: u8,
-        offset: usize,
-    },
 }
 
-// The record at an offset of the input. Refused by 18 where the input has more than 32,768 bytes,
-// by 16 where the byte there is no kind, by 17 where the input ends before the record's body does.
-pub fn record_at(input: &[u8], at: usize) -> Record
+// A record that is refused, by 16 or 17, with the offset of its kind byte; or an input that is too long,
+// by 18, with 32,768.
+#[derive(Clone, Copy, Debug, PartialEq, Eq)]
+pub struct Faulty {
+    pub why: Refusal,
+    pub offset: usize,
+}
+
+// The record at an offset of the input, and none where the input ends there. Refused by 18 where the input
+// has more than 32,768 bytes, by 16 where the byte there is no kind, by 17 where the input ends before the
+// record's body does.
+pub fn record_at(input: &[u8], at: usize) -> Result<Option<Record>, Faulty>
     ensures { RecordIs input.now at result }
 {
     if 32_768 < input.len() {
-        return Record::Bad {
-            number: table::LONG_INPUT,
+        return Err(Faulty {
+            why: Refusal::LongInput,
             offset: 32_768,
-        };
+        });
     }
     if input.len() <= at {
-        return Record::End;
+        return Ok(None);
     }
-    let kind = input[at];
-    let length = body_length(kind);
-    if length == 0 {
-        return Record::Bad {
-            number: table::UNKNOWN_KIND,
-            offset: at,
-        };
-    }
+    let kind = match Kind::try_from(input[at]) {
+        Ok(kind) => kind,
+        Err(why) => return Err(Faulty { why, offset: at }),
+    };
     let start = at + 1;
-    if input.len() - start < length {
-        return Record::Bad {
-            number: table::SHORT_BODY,
+    let end = start + kind.body_length();
+    if input.len() < end {
+        return Err(Faulty {
+            why: Refusal::ShortBody,
             offset: at,
-        };
+        });
     }
-    by_kind(input, kind, start, start + length)
+    Ok(Some(kind.read(input, start, end)))
 }
 
-// How many bytes the body of a kind has; none where there is no such kind.
-fn body_length(kind: u8) -> usize
-    ensures { Unless (Known kind) (result ≡ 0) (result ≡ body_length kind) }
-{
-    match kind {
-        1 => 256,
-        2 => 4_096,
-        3 => 4,
-        _ => 0,
+// What a record's kind byte says that it is.
+#[derive(Clone, Copy)]
+enum Kind {
+    SmallPicture,
+    LargePicture,
+    PixelSize,
+}
+
+impl TryFrom<u8> for Kind {
+    type Error = Refusal;
+
+    ghost try_from_gives = { KindIs };
+
+    fn try_from(byte: u8) -> Result<Kind, Refusal> {
+        match byte {
+            1 => Ok(Kind::SmallPicture),
+            2 => Ok(Kind::LargePicture),
+            3 => Ok(Kind::PixelSize),
+            _ => Err(Refusal::UnknownKind),
+        }
     }
 }
 
-// A record of a known kind, whose body is all there.
-fn by_kind(input: &[u8], kind: u8, start: usize, end: usize) -> Record
-    requires { Known kind × (end ≡ start + body_length kind) × (end ≤ length input.now) }
-    ensures { answer_of result ≡ by_kind input.now kind start end }
-{
-    match kind {
-        1 => Record::Picture {
-            side: 16,
-            start,
-            end,
-        },
-        2 => Record::Picture {
-            side: 64,
-            start,
-            end,
-        },
-        _ => Record::Pixel {
-            size: pixel_size(input, start),
-            end,
-        },
+impl Kind {
+    // How many bytes the body of a record has.
+    fn body_length(self) -> usize
+        ensures { result ≡ body_length (byte_of self) }
+    {
+        match self {
+            Kind::SmallPicture => 256,
+            Kind::LargePicture => 4_096,
+            Kind::PixelSize => 4,
+        }
+    }
+
+    // A record whose body is all there.
+    fn read(self, input: &[u8], start: usize, end: usize) -> Record
+        requires { (end ≡ start + body_length (byte_of self)) × (end ≤ length input.now) }
+        ensures { good_answer result ≡ by_kind input.now (byte_of self) start end }
+    {
+        match self {
+            Kind::SmallPicture => Record::Picture {
+                side: 16,
+                start,
+                end,
+            },
+            Kind::LargePicture => Record::Picture {
+                side: 64,
+                start,
+                end,
+            },
+            Kind::PixelSize => Record::Pixel {
+                size: pixel_size(input, start),
+                end,
+            },
+        }
     }
 }
 
@@ -108,7 +127,11 @@ fn pixel_size(input: &[u8], start: usize) -> Picometres
     requires { start + 4 ≤ length input.now }
     ensures { result ≡ picometres (four_bytes input.now start) }
 {
-    let low = bytes::pair(input[start], input[start + 1]);
-    let high = bytes::pair(input[start + 2], input[start + 3]);
-    Picometres::of(bytes::four(low, high) as u64)
+    let bytes = [
+        input[start],
+        input[start + 1],
+        input[start + 2],
+        input[start + 3],
+    ];
+    Picometres::of(u64::from(u32::from_le_bytes(bytes)))
 }

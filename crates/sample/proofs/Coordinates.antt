@@ -1,20 +1,15 @@
 -- The coordinates of a place: what pixel and remainder are, which have a sample, and how the code takes them apart. Assumes nothing.
 use mathlib.Core.Path.{◌≡◌, refl, sym, ap, ◌∙◌}
-use mathlib.Core.Bool.{true, false}
 use mathlib.Core.Logic.{⊎_elim}
 use Prim.Native.Nat.{ℕ, suc, ◌+◌, ◌-◌, ◌*◌, ◌/◌, ◌%◌, ◌<◌, ◌≤◌}
 use native.Mathlib.Omega.{arith}
-use lib.Dec.{leb}
 use lib.IntN.{ℤ, pos, negsuc, neg_ℤ, neg_ℤ-neg_ℤ, ◌+ℤ◌, ◌-ℤ◌, ◌*ℤ◌}
 use lib.Signed.{◌≤ℤ◌, shr_z}
-use borrow.Author.Tests.{le-leb, lt-leb}
-use Rattle.answers.specs.Refusals.{Unless}
 use Rattle.arithmetic.specs.Signed.{nat_of}
 use Rattle.arithmetic.proofs.Order.{le_or_lt, to_ℤ, of_ℤ}
 use Rattle.arithmetic.proofs.Differences.{sub_pos, sub_neg, pos_minus, less_plus}
-use Rattle.answers.proofs.Refusals.{stops, goes_on}
 use Rattle.units.specs.declared.Sixteenths.{Sixteenths}
-use Rattle.sample.specs.declared.Coordinate.{Coordinate}
+use Rattle.sample.specs.declared.coordinate.Coordinate.{Coordinate}
 use Rattle.sample.specs.Cubic.{pixel, remainder, Inside}
 use Rattle.sample.specs.Asked.{Surrounded, Located}
 
@@ -78,13 +73,6 @@ inside_surrounded side (negsuc n) h = absurd h.0.le
 surrounded_inside : (side : ℕ) (i : ℤ) → Surrounded side (nat_of i) → Inside side i
 surrounded_inside side (pos n) s = (to_ℤ s.before, to_last side n s.after)
 surrounded_inside side (negsuc n) s = absurd (let one = s.before in let no : ⊥ = omega arith in no)
-
--- the code's last test, past the first two, is whether the pixel lies past the last that has a sample
-pub tested : (side i last : ℕ) → 1 ≤ i → last + 3 ≡ side → Unless (Surrounded side i) (leb i last ≡ false) (leb i last ≡ true)
-tested side i last one is = ⊎_elim
-    (λ (h : i ≤ last). goes_on (record { before = one; after = omega arith }) (le-leb i last h))
-    (λ (h : last < i). stops (λ s. omega (arith, s.after)) (lt-leb i last h))
-    (le_or_lt i last)
 
 -- ---- a coordinate as the code takes it apart
 -- the natural remainder is the definition's, but of a negative number

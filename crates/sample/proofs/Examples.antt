@@ -15,8 +15,7 @@ use Rattle.arithmetic.specs.Sums.{sumℤ}
 use Rattle.arithmetic.proofs.Computed.{when, unless, EveryRow, every_row}
 use Rattle.picture.specs.Picture.{Side}
 use Rattle.units.specs.Units.{sixteenths}
-use Rattle.sample.specs.declared.Sampled.{Sampled}
-use Rattle.sample.specs.Cubic.{weight, sample_of, pixel, Inside, sample_at, sampled, SampleIs}
+use Rattle.sample.specs.Cubic.{weight, sample_of, pixel, Inside, sample_at, sampled, SampleIs, Sampled}
 use Rattle.sample.proofs.Outcomes.{one_sample}
 
 -- ---- a row of the table: a picture, a place, and what comes back

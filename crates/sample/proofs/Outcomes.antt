@@ -1,5 +1,5 @@
 -- What the call may answer: one outcome, and where its number is 0 the sample of the definition. Assumes nothing.
-use mathlib.Core.Path.{◌≡◌, ap}
+use mathlib.Core.Path.{◌≡◌, sym, ap}
 use mathlib.Core.List.{List}
 use mathlib.Core.Logic.{inl, inr}
 use Prim.Native.Nat.{ℕ, ◌*◌, ◌≤◌}
@@ -8,11 +8,13 @@ use lib.Dec.{lit≤}
 use lib.ListN.{length}
 use lib.IntN.{ℤ}
 use Rattle.arithmetic.specs.Signed.{nat_of}
+use Rattle.std.specs.Prelude.{Result, Ok, Err}
+use Rattle.answers.specs.declared.Refusal.{Refusal}
+use Rattle.answers.proofs.Numbers.{one_refusal, some_number}
 use Rattle.answers.proofs.Refusals.{alike, together}
 use Rattle.units.specs.declared.Sixteenths.{Sixteenths}
-use Rattle.sample.specs.declared.Sampled.{Sampled}
-use Rattle.sample.specs.declared.Coordinate.{Coordinate}
-use Rattle.sample.specs.Cubic.{sample_of, pixel, sample_at, refused, SampleIs}
+use Rattle.sample.specs.declared.coordinate.Coordinate.{Coordinate}
+use Rattle.sample.specs.Cubic.{sample_of, pixel, sample_at, refused, SampleIs, Sampled, sampled_of}
 use Rattle.sample.specs.Asked.{Surrounded, Located}
 use Rattle.sample.proofs.Coordinates.{inside_surrounded, is_pixel, is_remainder}
 
@@ -25,6 +27,17 @@ is_sample levels {w} {h} x y column row at_x at_y in-x in-y is =
 -- any two outcomes that the promise permits are equal
 pub one_sample : (levels : List ℕ) (w h : ℕ) (x y : Sixteenths) (r r' : Sampled) → SampleIs levels w h x y r → SampleIs levels w h x y r' → r ≡ r'
 one_sample levels w h x y r r' = together alike (together alike (together alike alike))
+
+-- what comes back is that of one answer only
+one_sampled : (a b : Result ℤ Refusal) → sampled_of a ≡ sampled_of b → a ≡ b
+one_sampled (Ok x) (Ok y) e = ap (λ (s : Sampled). Ok s.value) e
+one_sampled (Ok x) (Err r) e = absurd (some_number r (sym (ap (λ (s : Sampled). s.number) e)))
+one_sampled (Err r) (Ok y) e = absurd (some_number r (ap (λ (s : Sampled). s.number) e))
+one_sampled (Err r) (Err q) e = ap Err (one_refusal r q (ap (λ (s : Sampled). s.number) e))
+
+-- so any two answers that the promise permits are equal
+pub one_sample_answer : (levels : List ℕ) (w h : ℕ) (x y : Sixteenths) (a b : Result ℤ Refusal) → SampleIs levels w h x y (sampled_of a) → SampleIs levels w h x y (sampled_of b) → a ≡ b
+one_sample_answer levels w h x y a b is is' = one_sampled a b (one_sample levels w h x y (sampled_of a) (sampled_of b) is is')
 
 -- what a sample rests on: the picture has all its levels, the 4×4 of them are in it, and the value is the definition's
 pub record Done (levels : List ℕ) (w h : ℕ) (x y : Sixteenths) (value : ℤ) : Type 0 where

@@ -47,13 +47,6 @@ sample_done levels w i j across down up low is =
     is ∙ ap (λ (m : ℕ). sumℤ m (row_term levels w i j across down)) (le_antisymm up low) ∙ sym (by_rows levels w i j across down)
 
 -- ---- where the rows lie
--- where the first begins, and the next
-pub first_start : (w i j : ℕ) → (j - 1) * w + (i - 1) ≡ row_start w i j 0
-first_start w i j = omega arith
-
-pub next_start : (w i j r : ℕ) {at : ℕ} → at ≡ row_start w i j r → at + w ≡ row_start w i j (r + 1)
-next_start w i j r is = omega arith
-
 -- four levels of each are in the picture
 module _ {w h i j : ℕ} (column : Surrounded w i) (row : Surrounded h j) (r : ℕ) (in-it : r < 4) where
   row_ends : (j - 1 + r) * w + w ≤ w * h

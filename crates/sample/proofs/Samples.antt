@@ -14,8 +14,7 @@ use Rattle.arithmetic.specs.Sums.{sumℤ}
 use Rattle.arithmetic.proofs.SignedSums.{sumℤ_same, sumℤ_by}
 use Rattle.arithmetic.proofs.Ranges.{of_natural, widened, in_order}
 use Rattle.units.specs.declared.Sixteenths.{Sixteenths}
-use Rattle.sample.specs.declared.Sampled.{Sampled}
-use Rattle.sample.specs.Cubic.{weight, sample_of, pixel, remainder, refused, SampleIs}
+use Rattle.sample.specs.Cubic.{weight, sample_of, pixel, remainder, refused, SampleIs, Sampled}
 use Rattle.sample.specs.Asked.{Surrounded, column_term, row_sum, row_start, row_term}
 use Rattle.sample.proofs.Weights.{weights_add}
 use Rattle.sample.proofs.Reach.{SampleRange, rows_range}

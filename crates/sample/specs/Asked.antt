@@ -3,7 +3,7 @@ use Rattle.std.specs.Prelude.{◌≡◌, List, ℕ, ◌+◌, ◌-◌, ◌*◌, �
 use Rattle.arithmetic.specs.Signed.{nat_of}
 use Rattle.arithmetic.specs.Sums.{sumℤ}
 use Rattle.units.specs.declared.Sixteenths.{Sixteenths}
-use Rattle.sample.specs.declared.Coordinate.{Coordinate}
+use Rattle.sample.specs.declared.coordinate.Coordinate.{Coordinate}
 use Rattle.sample.specs.Cubic.{weight}
 
 -- pixel i has one before it and two after it, `side` being all there are: "1 ≤ i ≤ w−3", in natural numbers

@@ -1,12 +1,14 @@
 -- Document 01, "Cubic samples", and number 13 of its table.
 use Rattle.std.specs.Prelude.{◌≡◌, List, ℕ, zero, suc, ◌+◌, ◌-◌, ◌*◌, length, get_or, ℤ, pos, neg_ℤ, ◌+ℤ◌, ◌-ℤ◌, ◌*ℤ◌, ◌≤ℤ◌}
+use Rattle.std.specs.Prelude.{Result, Ok, Err}
 use Rattle.std.specs.Int.Signed.{shr_z}
 use Rattle.answers.specs.Refusals.{Unless}
+use Rattle.answers.specs.Numbers.{number_of}
+use Rattle.answers.specs.declared.Refusal.{Refusal}
 use Rattle.arithmetic.specs.Signed.{nat_of}
 use Rattle.arithmetic.specs.Sums.{sumℤ}
 use Rattle.picture.specs.Picture.{Shaped}
 use Rattle.units.specs.declared.Sixteenths.{Sixteenths}
-use Rattle.sample.specs.declared.Sampled.{Sampled}
 
 -- "For remainder k the weights on pixels i−1, i, i+1, i+2, in 1/8,192, are −256k+32k²−k³; 8,192−80k²+3k³; 256k+64k²−3k³;
 -- −16k²+k³": the weight on pixel i−1+t, for t from 0 to 3 (past 3, which nothing asks for, the fourth again).
@@ -38,13 +40,23 @@ Inside side i = (pos 1 ≤ℤ i) × (i ≤ℤ (pos side -ℤ pos 3))
 abbrev pub sample_at : List ℕ → ℕ → Sixteenths → Sixteenths → ℤ
 sample_at levels w x y = sample_of levels w (nat_of (pixel x)) (nat_of (pixel y)) (remainder x) (remainder y)
 
--- an answer by its two numbers
+-- what comes back: the table's number, and the sample in 1/67,108,864 levels
+pub record Sampled : Type 0 where
+  pub number : ℕ
+  pub value : ℤ
+
+-- by its two numbers
 abbrev pub sampled : ℕ → ℤ → Sampled
 sampled n v = record { number = n; value = v }
 
 -- a refusal: the number, and "All other returned numbers are 0"
 abbrev pub refused : ℕ → Sampled
 refused n = sampled n (pos 0)
+
+-- "a definition that gives this paper's number and values for each of the enum's cases"
+abbrev pub sampled_of : Result ℤ Refusal → Sampled
+sampled_of (Ok v) = sampled 0 v
+sampled_of (Err r) = refused (number_of r)
 
 -- "Sampling tests 1, 2, then 13": "sample place outside its bounds"
 abbrev pub SampleIs : List ℕ → ℕ → ℕ → Sixteenths → Sixteenths → Sampled → Type 0

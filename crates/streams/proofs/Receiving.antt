@@ -1,49 +1,22 @@
--- What came of reading: of a space that did not fail, of one that did, and of one that is filled in several reads. Assumes nothing.
-use mathlib.Core.Bool.{true, false, true≢false}
-use mathlib.Core.Path.{◌≡◌, refl, sym, ap, subst, ◌∙◌}
+-- What a good answer of a stream is, and what came of reading in several reads. Assumes nothing.
+use mathlib.Core.Bool.{true≢false}
+use mathlib.Core.Path.{◌≡◌, sym, ap, subst, ◌∙◌}
 use mathlib.Core.List.{List, ◌++◌}
-use Prim.Native.Nat.{ℕ, ◌+◌, ◌≤◌, ◌<◌}
-use native.Mathlib.Omega.{arith}
-use lib.IntN.{ℤ, pos, negsuc}
+use Prim.Native.Nat.{ℕ, ◌+◌, ◌≤◌}
 use lib.ListN.{length, take}
-use lib.Signed.{lt_z}
-use borrow.Author.Tests.{ltb-true}
 use borrow.Rule.Slice.PartMut.{put_mid, post_of}
-use Rattle.std.specs.Prelude.{Option}
+use Rattle.std.specs.Prelude.{Option, Result, Ok, Err, is_ok}
+use Rattle.std.specs.Result.{result_unwrap_or}
 use Rattle.std.specs.Io.KnownBytes.{Consumes}
 use Rattle.std.proofs.lemmas.List.{length-take-le, take-append-le}
 use Rattle.std.proofs.Math.Seq.{take-append-add}
 use Rattle.std.proofs.KnownBytes.{Consumes-trans}
-use Rattle.io.specs.Counts.{clamp_len}
-use Rattle.io.proofs.Counting.{prefix_len_of_le}
-use Rattle.streams.specs.declared.Got.{Got}
-use Rattle.streams.specs.Streams.{Received, Told}
+use Rattle.streams.specs.Streams.{said}
 
--- n bytes came, and no read failed
-pub came : (space : List ℕ) (n : ℕ) → n ≤ length space → Received space (record { failed = false; count = n })
-came space n inside = record { counts = prefix_len_of_le n space inside; none = λ failed. absurd (true≢false (sym failed)) }
-
--- a part of a space for which a read failed received nothing, and so did the space
-pub nothing_came : (part space : List ℕ) (r : Got) → Received part r → r.failed ≡ true → Received space r
-nothing_came part space r is failed =
-    let zero = is.none failed in
-    record { counts = prefix_len_of_le r.count space (omega arith); none = λ f. zero }
-
--- what a read's answer says: a negative one
-pub told_failed : (answer : ℤ) (space : List ℕ) → lt_z answer (pos 0) ≡ true → Told answer space (record { failed = true; count = 0 })
-told_failed (pos n) space negative = let no : n < 0 = ltb-true n 0 negative in absurd (let z : ⊥ = omega arith in z)
-told_failed (negsuc n) space negative =
-    record {
-      received = record { counts = prefix_len_of_le 0 space (omega arith); none = λ failed. refl };
-      failed_is = refl;
-      count_is = refl;
-    }
-
--- and one that is not
-pub told_count : (answer : ℤ) (space : List ℕ) (n : ℕ) → lt_z answer (pos 0) ≡ false → n ≤ length space
-    → n ≡ clamp_len answer (length space) → Told answer space (record { failed = false; count = n })
-told_count answer space n not_negative inside is =
-    record { received = came space n inside; failed_is = sym not_negative; count_is = is }
+-- what is said to be good is what the stream answered
+pub was_good : {A E : Type 0} (r : Result A E) (a : A) → said r ≡ Ok a → r ≡ Ok a
+was_good (Ok x) a h = ap Ok (ap (λ q. result_unwrap_or q x) h)
+was_good (Err e) a h = absurd (true≢false (sym (ap is_ok h)))
 
 -- the front of a space, and the first bytes of what was put behind it
 front_and_more : (xs ys rest : List ℕ) (at n : ℕ) → at ≤ length xs → n ≤ length ys

@@ -1,16 +1,10 @@
--- Laws of numbers as text: what io spells, one digit, how many digits there are; and that a number has one text. Assumes nothing.
-use Rattle.std.proofs.Common.{◌≡◌, ℕ, suc, ◌+◌, ◌-◌, ◌%◌, ◌^◌, ◌<◌, ◌≤◌, List, [], ◌∷◌, length, take, ℤ, pos, negsuc}
-use Rattle.std.proofs.Common.{sym, refl, ap, ◌∙◌, le_trans, le_refl, not-le_of_lt, arith, lit<, lit≤, lt-ltb}
+-- Laws of numbers as text: one digit, how many digits there are; and that a number has one text. Assumes nothing.
+use Rattle.std.proofs.Common.{◌≡◌, ℕ, suc, ◌+◌, ◌-◌, ◌%◌, ◌^◌, ◌<◌, ◌≤◌, List, [], ◌∷◌, length, ℤ, pos, negsuc}
+use Rattle.std.proofs.Common.{sym, refl, ap, ◌∙◌, le_trans, le_refl, not-le_of_lt, arith, lit<, lit≤, lt-ltb, ◌≡◌, ℕ, suc, ◌+◌, ◌-◌, ◌%◌, ◌^◌, ◌<◌, ◌≤◌, List, [], ◌∷◌, length, ℤ, pos, negsuc}
 use native.Mathlib.Nat.{pow-le-pow_right}
 use native.Mathlib.Decide.{dec_lt}
-use Rattle.io.specs.Counts.{IsPrefixLen}
 use Rattle.io.specs.Digits.{last_digits, IsDigitCount}
 use Rattle.text.specs.Text.{Spelled, SpelledSigned}
-
--- what io has spelled at the start of a list
-pub spelled : (out : List ℕ) (n k : ℕ) → IsPrefixLen k out → IsDigitCount 10 1 n k → take k out ≡ last_digits 10 k n
-    → Spelled n (take k out)
-spelled out n k counts fewest is = record { fewest = rw (sym counts.1) fewest; digits_are = rw (sym counts.1) is }
 
 -- a number below 10 has one digit
 pub one_digit : (n : ℕ) → n < 10 → Spelled n ((48 + n) ∷ [])
@@ -21,17 +15,6 @@ one_digit n small = record { fewest = (le_refl 1, omega arith, λ more. omega ar
 
     digit : ◌≡◌ {A = List ℕ} ((48 + n) ∷ []) (last_digits 10 1 n)
     digit = rw (last, lt-ltb n 10 small)
-
--- a number of 64 bits has at most 20
-pub few_digits : (n k : ℕ) → n < 2 ^ 64 → IsDigitCount 10 1 n k → k ≤ 20
-few_digits n k small fewest = elim (dec_lt 20 k) [
-  | no few ↦ omega arith
-  | yes many ↦
-      let least : 10 ^ (k - 1) ≤ n = fewest.2 (omega arith) in
-      let more : 20 ≤ k - 1 = omega arith in
-      let large : 10 ^ 20 ≤ 10 ^ (k - 1) = pow-le-pow_right (lit< tt) more in
-      absurd (not-le_of_lt small (le_trans (lit≤ tt) (le_trans large least)))
-]
 
 -- ---- a number has one text
 -- no fewest digits are more than other fewest ones
@@ -64,3 +47,14 @@ reads_1131 = record { fewest = (lit≤ tt, lit< tt, λ more. lit≤ tt); digits_
 
 pub reads_minus_5 : SpelledSigned (negsuc 4) (45 ∷ 53 ∷ [])
 reads_minus_5 = (53 ∷ [], (refl, record { fewest = (lit≤ tt, lit< tt, λ more. omega arith); digits_are = refl }))
+
+-- a number of 64 bits has at most 20
+pub few_digits : (n k : ℕ) → n < 2 ^ 64 → IsDigitCount 10 1 n k → k ≤ 20
+few_digits n k small fewest = elim (dec_lt 20 k) [
+  | no few ↦ omega arith
+  | yes many ↦
+      let least : 10 ^ (k - 1) ≤ n = fewest.2 (omega arith) in
+      let more : 20 ≤ k - 1 = omega arith in
+      let large : 10 ^ 20 ≤ 10 ^ (k - 1) = pow-le-pow_right (lit< tt) more in
+      absurd (not-le_of_lt small (le_trans (lit≤ tt) (le_trans large least)))
+]

@@ -17,9 +17,8 @@ use Rattle.arithmetic.proofs.Greatest.{not_yet}
 use Rattle.arithmetic.proofs.Fractions.{one_pair_or_not}
 use Rattle.answers.proofs.Refusals.{goes_on}
 use Rattle.arithmetic.proofs.Computed.{when, EveryRow, every_row}
-use Rattle.threshold.specs.declared.Threshold.{Threshold}
 use Rattle.threshold.specs.Histogram.{total}
-use Rattle.threshold.specs.TwoMeans.{level, start, round, Rests, threshold, Settled, answered, TwoMeansIs}
+use Rattle.threshold.specs.TwoMeans.{level, start, round, Rests, threshold, Settled, answered, TwoMeansIs, Threshold}
 use Rattle.threshold.specs.Worked.{histogram, Walk}
 use Rattle.threshold.proofs.Sequence.{within_or_not, rests_or_not}
 use Rattle.threshold.proofs.Demand.{RestsAt, settled}

@@ -1,6 +1,6 @@
 -- What the two calls may answer and leave: each answer is determined, what a caller reads off the number, and that a histogram which was
 -- counted is never refused a threshold. Assumes nothing.
-use mathlib.Core.Path.{◌≡◌, ap}
+use mathlib.Core.Path.{◌≡◌, sym, ap}
 use mathlib.Core.List.{List}
 use mathlib.Core.Logic.{inl, inr}
 use Prim.Native.Nat.{ℕ, ◌*◌, ◌<◌, ◌≤◌}
@@ -9,10 +9,14 @@ use native.Mathlib.Omega.{arith}
 use lib.Dec.{lit≤}
 use lib.ListN.{length}
 use lib.Seq.{ext_get_or}
+use Rattle.std.specs.Prelude.{Result, Ok, Err}
+use Rattle.answers.specs.declared.Refusal.{Refusal}
+use Rattle.answers.proofs.Numbers.{one_refusal, some_number}
+use Rattle.arithmetic.specs.declared.Fraction.{Fraction}
+use Rattle.threshold.specs.declared.Resting.{Resting}
 use Rattle.answers.proofs.Refusals.{past, alike, together}
-use Rattle.threshold.specs.declared.Threshold.{Threshold}
 use Rattle.threshold.specs.Histogram.{Countable, Tally, tally, Counted, CountIs}
-use Rattle.threshold.specs.TwoMeans.{highest, threshold, answered, refused, Done, TwoMeansIs}
+use Rattle.threshold.specs.TwoMeans.{highest, threshold, answered, refused, Done, TwoMeansIs, Threshold, threshold_of}
 use Rattle.threshold.proofs.Present.{highest_below}
 use Rattle.threshold.proofs.Tables.{denominator_small}
 use Rattle.threshold.proofs.Demand.{one_rounds, one_answer}
@@ -55,6 +59,21 @@ one_two_means h a b =
     let rounds = one_rounds 128 h a.rounds b.rounds a.value b.value p.settled q.settled in
     let value = one_answer 128 h a.rounds b.rounds a.value b.value p.settled q.settled in
     λ i. answered (number i) (rounds i) (value i))))
+
+-- a threshold that rests, by its rounds and its value
+abbrev resting : ℕ → Fraction → Result Resting Refusal
+resting k T = Ok (record { rounds = k; value = T })
+
+-- what comes back is that of one answer only
+one_threshold : (a b : Result Resting Refusal) → threshold_of a ≡ threshold_of b → a ≡ b
+one_threshold (Ok x) (Ok y) e = ap (λ (s : Threshold). resting s.rounds s.value) e
+one_threshold (Ok x) (Err r) e = absurd (some_number r (sym (ap (λ (s : Threshold). s.number) e)))
+one_threshold (Err r) (Ok y) e = absurd (some_number r (ap (λ (s : Threshold). s.number) e))
+one_threshold (Err r) (Err q) e = ap Err (one_refusal r q (ap (λ (s : Threshold). s.number) e))
+
+-- so any two answers that the promise permits are one
+pub one_two_means_answer : (h : List ℕ) (a b : Result Resting Refusal) → TwoMeansIs h (threshold_of a) → TwoMeansIs h (threshold_of b) → a ≡ b
+one_two_means_answer h a b is is' = one_threshold a b (one_two_means h (threshold_of a) (threshold_of b) is is')
 
 -- a refused call does not answer 0
 threshold_refused : {n : ℕ} {r : Threshold} → 1 ≤ n → r ≡ refused n → ¬ (r.number ≡ 0)

@@ -1,19 +1,22 @@
 -- The levels present in a histogram: `lowest` is the least of them and `highest` the greatest, where there are any. Assumes nothing.
-use mathlib.Core.Path.{◌≡◌, refl, ap}
+use mathlib.Core.Path.{◌≡◌, refl, sym, ap, ◌∙◌}
 use mathlib.Core.Bool.{Bool, true, false}
 use mathlib.Core.List.{List, [], ◌∷◌}
-use Prim.Native.Nat.{ℕ, zero, suc, ◌+◌, ◌<◌, ◌≤◌, zero-le}
-use native.Mathlib.Nat.{lt_of_not-le, lt_of_lt_of_le, pos_of_ne-zero}
+use mathlib.Core.Logic.{◌≢◌, inl, inr}
+use Prim.Native.Nat.{ℕ, zero, suc, ◌+◌, ◌<◌, ◌≤◌, max, min, zero-le}
+use native.Mathlib.Nat.{eq-or-lt_of_le, lt_of_not-le, lt_of_lt_of_le, pos_of_ne-zero}
 use native.Mathlib.Omega.{arith}
+use Rattle.std.specs.Prelude.{Option, None, Some, MatchOption}
+use Rattle.std.proofs.lemmas.Bool.Decides.{nat_tests}
 use lib.Dec.{eqb}
 use lib.ListN.{length, get_or-eq_default}
-use borrow.Author.Tests.{eqb-true, eqb-false, ne_eqb, lt-ltb, le-ltb}
+use borrow.Author.Tests.{eqb-true, eqb-false, ne_eqb}
 use Rattle.arithmetic.specs.Greatest.{Greatest, Least}
 use Rattle.arithmetic.specs.Sums.{sum}
 use Rattle.arithmetic.proofs.Greatest.{next_least}
 use Rattle.arithmetic.proofs.Sums.{sum_goes_on}
 use Rattle.threshold.specs.Histogram.{count_of, total}
-use Rattle.threshold.specs.TwoMeans.{level, lowest, highest, start}
+use Rattle.threshold.specs.TwoMeans.{level, lowest, highest, nearest, start}
 
 -- a level is present where it was counted
 abbrev pub Present : List ℕ → ℕ → Type 0
@@ -22,10 +25,6 @@ Present h v = 0 < count_of h v
 -- the levels of a histogram are those below its length
 present_below : (h : List ℕ) (v : ℕ) → Present h v → v < length h
 present_below h v p = lt_of_not-le (λ (past : length h ≤ v). omega (arith, p, get_or-eq_default h 0 past))
-
--- a level that is not counted is another than one that is
-absent_is_another : (h : List ℕ) (q v : ℕ) → Present h q → count_of h v ≡ 0 → ¬ (v ≡ q)
-absent_is_another h q v there absent e = omega (arith, there, absent, ap (count_of h) e)
 
 -- no levels have the total 0
 total_none : total [] ≡ 0
@@ -83,7 +82,7 @@ highest_is (c ∷ cs) some = go (eqb (total cs) 0) refl (highest_is cs)
         rw e (only_first c cs (omega (arith, some, total_first c cs, nothing)) nothing)
     go false e rest = rw e (behind_one c cs (rest (pos_of_ne-zero (eqb-false (total cs) 0 e))))
 
--- where the searches for the two ends stand, from either side, and where they stop
+-- what is found from either side is the end of the levels present there
 module _ (h : List ℕ) (some : 0 < total h) where
   pub lowest_below : lowest h < length h
   lowest_below = present_below h (lowest h) (lowest_is h some).holds
@@ -91,28 +90,43 @@ module _ (h : List ℕ) (some : 0 < total h) where
   pub highest_below : highest h < length h
   highest_below = present_below h (highest h) (highest_is h some).holds
 
-  pub lowest_later : (v : ℕ) → v ≤ lowest h → count_of h v ≡ 0 → v + 1 ≤ lowest h
-  lowest_later v so_far absent = omega (arith, absent_is_another h (lowest h) v (lowest_is h some).holds absent)
+  -- what holds where no level is counted, and where i is the first that is
+  abbrev pub FirstCounted : Option ℕ → Type 0
+  FirstCounted r =
+      MatchOption r ((k : ℕ) → k < length h → count_of h k ≡ 0)
+      (λ i. (i < length h) × ((count_of h i ≢ 0) × ((k : ℕ) → k < i → count_of h k ≡ 0)))
 
-  pub lowest_here : (v : ℕ) → v ≤ lowest h → ¬ (count_of h v ≡ 0) → v ≡ lowest h
-  lowest_here v so_far there = omega (arith, (lowest_is h some).least v (pos_of_ne-zero there))
+  pub first_counted : (r : Option ℕ) → FirstCounted r → r ≡ Some (lowest h)
+  first_counted None none = absurd (let no : ⊥ = omega (arith, none (lowest h) lowest_below, (lowest_is h some).holds) in no)
+  first_counted (Some i) found =
+      let least = (lowest_is h some).least i (pos_of_ne-zero found.1.0) in
+      ap Some (elim (eq-or-lt_of_le least) [
+        | inl e ↦ sym e
+        | inr less ↦ absurd (let no : ⊥ = omega (arith, found.1.1 (lowest h) less, (lowest_is h some).holds) in no)
+      ])
 
-  pub highest_sooner : (v : ℕ) → highest h ≤ v → count_of h v ≡ 0 → highest h + 1 ≤ v
-  highest_sooner v so_far absent = omega (arith, absent_is_another h (highest h) v (highest_is h some).holds absent)
+  -- and where it is the last
+  abbrev pub LastCounted : Option ℕ → Type 0
+  LastCounted r =
+      MatchOption r ((k : ℕ) → k < length h → count_of h k ≡ 0)
+      (λ i. (i < length h) × ((count_of h i ≢ 0) × ((k : ℕ) → i < k → k < length h → count_of h k ≡ 0)))
 
-  pub highest_here : (v : ℕ) → highest h ≤ v → ¬ (count_of h v ≡ 0) → v ≡ highest h
-  highest_here v so_far there = omega (arith, (highest_is h some).most v (pos_of_ne-zero there))
+  pub last_counted : (r : Option ℕ) → LastCounted r → r ≡ Some (highest h)
+  last_counted None none = absurd (let no : ⊥ = omega (arith, none (highest h) highest_below, (highest_is h some).holds) in no)
+  last_counted (Some i) found =
+      let most = (highest_is h some).most i (pos_of_ne-zero found.1.0) in
+      ap Some (elim (eq-or-lt_of_le most) [
+        | inl e ↦ e
+        | inr less ↦ absurd (let no : ⊥ = omega (arith, found.1.1 (highest h) less highest_below, (highest_is h some).holds) in no)
+      ])
 
--- the start, from the two ends as they were found
-module _ (m : ℕ) (h : List ℕ) {low high : ℕ} (is-low : low ≡ lowest h) (is-high : high ≡ highest h) where
-  pub start_low : m < low → level low ≡ start m h
-  unfolding start
-  start_low below = rw (← is-low, lt-ltb m low below)
+  pub in_order : lowest h ≤ highest h
+  in_order = (highest_is h some).most (lowest h) (lowest_is h some).holds
 
-  pub start_high : low ≤ m → high < m → level high ≡ start m h
-  unfolding start
-  start_high from above = rw (← is-low, ← is-high, le-ltb m low from, lt-ltb high m above)
+-- the start is the usual one, kept between the two ends
+nearest_is : (m g G : ℕ) → g ≤ G → max g (min m G) ≡ nearest m g G
+nearest_is m g G order = grind (arith, nat_tests)
 
-  pub start_usual : low ≤ m → m ≤ high → level m ≡ start m h
-  unfolding start
-  start_usual from to = rw (← is-low, ← is-high, le-ltb m low from, le-ltb high m to)
+pub start_is : (m : ℕ) (h : List ℕ) → 0 < total h → {v : ℕ} → v ≡ max (lowest h) (min m (highest h)) → level v ≡ start m h
+unfolding start
+start_is m h some is = ap level (is ∙ nearest_is m (lowest h) (highest h) (in_order h some))

@@ -1,16 +1,19 @@
 -- Laws of the loop that goes on until the threshold rests. Assumes nothing.
 use mathlib.Core.Path.{◌≡◌, refl, ap, sym, ◌∙◌}
+use mathlib.Core.Bool.{Bool, true, false, not, ◌&&◌, ◌||◌}
 use mathlib.Core.List.{List}
 use Prim.Native.Nat.{ℕ, suc, ◌+◌, ◌-◌, ◌*◌, ◌<◌, ◌≤◌, zero-le}
 use native.Mathlib.Nat.{mul-le-mul}
 use native.Mathlib.Numerals.{add-one}
 use native.Mathlib.Omega.{arith}
+use lib.Dec.{eqb}
 use lib.ListN.{length}
 use Rattle.arithmetic.specs.declared.Fraction.{Fraction}
-use Rattle.arithmetic.specs.Fractions.{fraction, Equal}
+use Rattle.arithmetic.specs.Fractions.{fraction, Equal, unlike}
+use Rattle.arithmetic.proofs.Fractions.{they_differ, they_agree}
 use Rattle.arithmetic.proofs.Greatest.{not_yet}
 use Rattle.threshold.specs.Histogram.{total}
-use Rattle.threshold.specs.TwoMeans.{level, highest, start, round, Within, threshold, answered, Done}
+use Rattle.threshold.specs.TwoMeans.{level, highest, start, round, Within, threshold, Settled}
 use Rattle.threshold.specs.Asked.{Small}
 use Rattle.threshold.proofs.Present.{highest_below}
 use Rattle.threshold.proofs.Rounds.{same_pair}
@@ -18,6 +21,26 @@ use Rattle.threshold.proofs.Tables.{denominator_small}
 use Rattle.threshold.proofs.Sequence.{low_some, high_some, start_within, threshold_within, given_back, comes_to_rest}
 use Rattle.threshold.proofs.Demand.{RestsAt, settled}
 
+-- ---- the test of the loop, `t != next`: it says whether the pairs differ in one of their numbers
+-- as each of the two tests says it
+of_both : (a b : Bool) → not (a && b) ≡ (not a || not b)
+of_both true b = refl
+of_both false b = refl
+
+module _ (t next : Fraction) where
+  abbrev test : Bool
+  test = not (eqb t.numerator next.numerator && eqb t.denominator next.denominator)
+
+  test_is : unlike t next ≡ test
+  test_is = sym (of_both (eqb t.numerator next.numerator) (eqb t.denominator next.denominator))
+
+  pub told_apart : test ≡ true → ¬ (t ≡ next)
+  told_apart said = they_differ t next (test_is ∙ said)
+
+  pub told_one : test ≡ false → t ≡ next
+  told_one said = they_agree t next (test_is ∙ said)
+
+-- ---- the loop
 -- Before a test of the loop: `next` is the threshold after the k-th, none before the k-th rests, and `t` and `next` are one pair exactly
 -- where the k-th does.
 pub record Going (m : ℕ) (h : List ℕ) (k : ℕ) (t next : Fraction) : Type 0 where
@@ -86,10 +109,6 @@ module _ (m : ℕ) (h : List ℕ) (some : 0 < total h) where
       omega (arith, r.1, not_yet g.not_before (λ now. moved (g.rests_same now)) r.0 r.2)
 
   -- at rest
-  pub going_ends : (k : ℕ) (t next : Fraction) → Going m h k t next → t ≡ next → Done m h (answered 0 k next)
+  pub going_ends : (k : ℕ) (t next : Fraction) → Going m h k t next → t ≡ next → Settled m h k next
   unfolding threshold
-  going_ends k t next g e =
-      record {
-        number = refl;
-        settled = rw g.is_next (settled m h some k (record { holds = g.same_rests e; least = g.not_before }));
-      }
+  going_ends k t next g e = rw g.is_next (settled m h some k (record { holds = g.same_rests e; least = g.not_before }))

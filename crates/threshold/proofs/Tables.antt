@@ -4,15 +4,17 @@ use mathlib.Core.Path.{◌≡◌, sym, ◌∙◌}
 use mathlib.Core.Bool.{Bool, true, false, cond, not}
 use mathlib.Core.List.{List}
 use Prim.Native.Nat.{ℕ, zero, suc, ◌+◌, ◌-◌, ◌*◌, ◌/◌, ◌<◌, ◌≤◌}
-use native.Mathlib.Nat.{le_refl, le_trans, le_of_lt, suc-mul, mul-add, mul-le-mul, mul-le-mul_right, div-mul-le_self, le-div_iff_mul-le, div-lt_iff_lt-mul}
+use native.Mathlib.Nat.{le_refl, le_trans, suc-mul, mul-add, mul-le-mul, mul-le-mul_right, le-div_iff_mul-le, div-lt_iff_lt-mul}
 use native.Mathlib.Omega.{arith}
-use lib.ListN.{length, get_or, set}
+use Rattle.std.specs.Int.{div_ceil}
+use Rattle.std.proofs.lemmas.Grind.{div_ceil_times}
+use lib.ListN.{length, get_or, set, replicate, length-replicate, get_or-replicate}
 use borrow.Author.Tests.{le-leb, lt-leb}
 use Rattle.arithmetic.specs.declared.Fraction.{Fraction}
 use Rattle.arithmetic.specs.Lists.{AtMost}
 use Rattle.arithmetic.specs.Sums.{sum, sum_over}
 use Rattle.arithmetic.specs.Fractions.{fraction, Proper}
-use Rattle.arithmetic.proofs.Lists.{Written, written_none, written_more}
+use Rattle.arithmetic.proofs.Lists.{Written, written_more}
 use Rattle.arithmetic.proofs.Sums.{sum_none, sum_more, sum_most, sum_same, sum_part}
 use Rattle.threshold.specs.Histogram.{count_of, total}
 use Rattle.threshold.specs.TwoMeans.{highest, low, high, level_sum, round, Within}
@@ -64,18 +66,22 @@ module _ {h below sums : List ℕ} {v : ℕ} (f : Filled h v below sums) where
   sums_written = record { places = f.sums_long; are = λ k b. f.sums_are k (omega arith) }
 
 -- nothing lies below level 0
-pub filling_none : (h below sums : List ℕ) → length below ≡ length h + 1 → length sums ≡ length h + 1 → Filling h 0 (set below 0 0) (set sums 0 0) 0 0
-filling_none h below sums long-below long-sums =
-    let number_is : 0 ≡ number_below h 0 = sym (sum_none (count_of h)) in
-    let added_is : 0 ≡ sum_below h 0 = sym (sum_none (level_sum h)) in
+pub filling_none : (h : List ℕ) {n : ℕ} → length h + 1 ≡ n → Filling h 0 (replicate n 0) (replicate n 0) 0 0
+filling_none h {n} long =
     record {
       filled =
-          right_up_to
-          (written_more (number_below h) below 0 0 (omega arith) number_is (written_none (number_below h) below long-below))
-          (written_more (sum_below h) sums 0 0 (omega arith) added_is (written_none (sum_below h) sums long-sums));
-      number_is = number_is;
-      added_is = added_is;
+          record {
+            below_long = length-replicate n 0 ∙ sym long;
+            sums_long = length-replicate n 0 ∙ sym long;
+            below_are = λ k b. let first : k ≡ 0 = omega arith in rw first (at-first (count_of h));
+            sums_are = λ k b. let first : k ≡ 0 = omega arith in rw first (at-first (level_sum h));
+          };
+      number_is = sym (sum_none (count_of h));
+      added_is = sym (sum_none (level_sum h));
     }
+  where
+    at-first : (f : ℕ → ℕ) → get_or (replicate n 0) 0 0 ≡ sum 0 f
+    at-first f = get_or-replicate n 0 0 0 (omega arith) ∙ sym (sum_none f)
 
 module _ {h below sums : List ℕ} {v number added : ℕ} (so_far : Filling h v below sums number added) where
   -- one level more
@@ -144,24 +150,13 @@ module _ (T : Fraction) (proper : Proper T) where
         past = λ v h. lt-leb (v * T.denominator) T.numerator (past_whole v h);
       }
 
-  -- the levels that are not from T on are those below it, where it is whole
-  high_cut_whole : whole T * T.denominator ≡ T.numerator → Cut (λ v. not (high T v)) (whole T)
-  high_cut_whole exact =
+  -- the levels that are not from T on are those below it, rounded up
+  high_cut : {up : ℕ} → T.numerator ≤ up * T.denominator → up * T.denominator < T.numerator + T.denominator → Cut (λ v. not (high T v)) up
+  high_cut enough no-more =
       record {
-        below = λ v (h : v < whole T). rw (lt-leb T.numerator (v * T.denominator) (omega (arith, exact, mul-le-mul_right T.denominator h)));
-        past = λ v (h : whole T ≤ v). rw (le-leb T.numerator (v * T.denominator) (omega (arith, exact, mul-le-mul_right T.denominator h)));
+        below = λ v h. rw (lt-leb T.numerator (v * T.denominator) (omega (arith, no-more, mul-le-mul_right T.denominator h)));
+        past = λ v h. rw (le-leb T.numerator (v * T.denominator) (omega (arith, enough, mul-le-mul_right T.denominator h)));
       }
-
-  -- and those up to its whole part, where it is not
-  high_cut_part : ¬ (whole T * T.denominator ≡ T.numerator) → Cut (λ v. not (high T v)) (whole T + 1)
-  high_cut_part between =
-      record {
-        below = λ v (h : v < whole T + 1). rw (lt-leb T.numerator (v * T.denominator) (less v (omega arith)));
-        past = λ v h. rw (le-leb T.numerator (v * T.denominator) (le_of_lt (past_whole v h)));
-      }
-    where
-      less : (v : ℕ) → v ≤ whole T → v * T.denominator < T.numerator
-      less v h = omega (arith, between, div-mul-le_self T.numerator T.denominator, mul-le-mul_right T.denominator h)
 
 -- where a round reads the tables: at the first level past T, and at the first that is not below T
 pub record Places (h : List ℕ) (T : Fraction) (from : ℕ) : Type 0 where
@@ -177,15 +172,24 @@ module _ (h : List ℕ) (T : Fraction) (some : 0 < total h) (within : Within h T
       let to_highest : whole T < highest h + 1 = (div-lt_iff_lt-mul within.proper).1 (omega (arith, within.to_highest)) in
       omega (arith, highest_below h some)
 
-  placed : {from : ℕ} → from ≤ whole T + 1 → Cut (λ v. not (high T v)) from → Places h T from
-  placed le is = record { up_to_in = whole_in; from_in = le_trans le whole_in; up_to_is = low_cut T within.proper; from_is = is }
+  -- T rounded up is a level, or the one past the last
+  pub places : {from : ℕ} → from ≡ div_ceil T.numerator T.denominator → Places h T from
+  places is =
+      let rounded = div_ceil_times T.numerator T.denominator within.proper in
+      record {
+        up_to_in = whole_in;
+        from_in = omega (arith, whole_in);
+        up_to_is = low_cut T within.proper;
+        from_is = high_cut T within.proper (rw is rounded.0) (rw is rounded.1);
+      }
 
-  -- T is a level itself, or it is not
-  pub places_whole : {from : ℕ} → whole T * T.denominator ≡ T.numerator → from ≡ whole T → Places h T from
-  places_whole exact is = placed (omega arith) (rw is (high_cut_whole T within.proper exact))
+-- with 256 levels, T's whole part is at most the last, and T rounded up at most the one past it
+module _ {h : List ℕ} {T : Fraction} (levels : length h ≡ 256) (within : (0 < total h) × Within h T) where
+  pub whole_last : T.numerator / T.denominator + 1 ≤ 256
+  whole_last = omega (arith, levels, whole_in h T within.0 within.1)
 
-  pub places_part : {from : ℕ} → ¬ (whole T * T.denominator ≡ T.numerator) → from ≡ whole T + 1 → Places h T from
-  places_part between is = placed (omega arith) (rw is (high_cut_part T within.proper between))
+  pub rounded_last : {from : ℕ} → from ≡ div_ceil T.numerator T.denominator → from ≤ 256
+  rounded_last is = let at = places h T within.0 within.1 is in omega (arith, levels, at.from_in)
 
 -- what is read there, from either table
 module _ (f : ℕ → ℕ) (h table : List ℕ) (right : (v : ℕ) → v ≤ length h → get_or table v 0 ≡ sum v f) {T : Fraction} {from : ℕ} (at : Places h T from) where
@@ -228,24 +232,24 @@ pub record Read (h : List ℕ) (T : Fraction) (a b c e : ℕ) : Type 0 where
   pub be_small : b * e ≤ 1099511627776
 
 -- as they are read from the tables
-abbrev pub ReadFrom : List ℕ → List ℕ → List ℕ → Fraction → ℕ → Type 0
-ReadFrom h below sums T from =
+abbrev pub ReadFrom : List ℕ → List ℕ → List ℕ → Fraction → ℕ → ℕ → Type 0
+ReadFrom h below sums T from levels =
     Read h T
     (get_or sums (whole T + 1) 0)
     (get_or below (whole T + 1) 0)
-    (get_or sums (length h) 0 - get_or sums from 0)
-    (get_or below (length h) 0 - get_or below from 0)
+    (get_or sums levels 0 - get_or sums from 0)
+    (get_or below levels 0 - get_or below from 0)
 
-module _ {h below sums : List ℕ} (tables : Tables h below sums) {T : Fraction} {from : ℕ} (at : Places h T from) where
+module _ {h below sums : List ℕ} (tables : Tables h below sums) {T : Fraction} {from levels : ℕ} (at : Places h T from) (long : length h ≡ levels) where
   -- nothing is taken from less
-  pub sums_in : get_or sums from 0 ≤ get_or sums (length h) 0
-  sums_in = omega (arith, high_read (level_sum h) h sums tables.sums_are at)
+  pub sums_in : get_or sums from 0 ≤ get_or sums levels 0
+  sums_in = rw (← long) (omega (arith, high_read (level_sum h) h sums tables.sums_are at))
 
-  pub below_in : get_or below from 0 ≤ get_or below (length h) 0
-  below_in = omega (arith, high_read (count_of h) h below tables.below_are at)
+  pub below_in : get_or below from 0 ≤ get_or below levels 0
+  below_in = rw (← long) (omega (arith, high_read (count_of h) h below tables.below_are at))
 
-  pub read : Small h → ReadFrom h below sums T from
-  read small =
+  read_all : Small h → ReadFrom h below sums T from (length h)
+  read_all small =
       let n = length h in
       let u = whole T + 1 in
       let all : n ≤ n = le_refl n in
@@ -263,6 +267,9 @@ module _ {h below sums : List ℕ} (tables : Tables h below sums) {T : Fraction}
         cb_small = mul-le-mul c-small b_small;
         be_small = mul-le-mul b_small e-small;
       }
+
+  pub read : Small h → ReadFrom h below sums T from levels
+  read small = rw (← long) (read_all small)
 
 -- the next threshold is made of them
 pub round_is : {h : List ℕ} {T : Fraction} {a b c e : ℕ} → Read h T a b c e → fraction (a * e + c * b) (2 * b * e) ≡ round h T

@@ -2,12 +2,15 @@
 -- words stand in docs/DECISIONS.md. A histogram h is a list of counts of any length, from that of level 0 on; a threshold is a
 -- fraction, compared by cross products (arithmetic/specs/Fractions.antt).
 use Rattle.std.specs.Prelude.{◌≡◌, Bool, cond, List, [], ◌∷◌, ◌⊎◌, ℕ, zero, suc, ◌+◌, ◌-◌, ◌*◌, ◌<◌, ◌≤◌, leb, ltb, eqb, length}
+use Rattle.std.specs.Prelude.{Result, Ok, Err}
 use Rattle.arithmetic.specs.declared.Fraction.{Fraction}
 use Rattle.answers.specs.Refusals.{Unless}
+use Rattle.answers.specs.Numbers.{number_of}
+use Rattle.answers.specs.declared.Refusal.{Refusal}
 use Rattle.arithmetic.specs.Greatest.{Least}
 use Rattle.arithmetic.specs.Sums.{sum_over}
 use Rattle.arithmetic.specs.Fractions.{fraction, Proper, Equal, NotMore}
-use Rattle.threshold.specs.declared.Threshold.{Threshold}
+use Rattle.threshold.specs.declared.Resting.{Resting}
 use Rattle.threshold.specs.Histogram.{count_of, total}
 
 -- a level as a threshold: "a pair and a level, are equal, less or greater by their cross products"
@@ -89,12 +92,23 @@ pub record Settled (m : ℕ) (h : List ℕ) (k : ℕ) (T : Fraction) : Type 0 wh
   -- "the rounds reported are the first at which the sequence stands still": before it, each round moves it
   pub moved : (j : ℕ) → j < k → ¬ Equal (threshold m h (suc j)) (threshold m h j)
 
--- a threshold by its number, rounds and fraction, and a refusal: "All other returned numbers are 0"
+-- what comes back: the table's number, the rounds until the threshold rests, and that threshold
+pub record Threshold : Type 0 where
+  pub number : ℕ
+  pub rounds : ℕ
+  pub value : Fraction
+
+-- by its number, rounds and fraction, and a refusal: "All other returned numbers are 0"
 abbrev pub answered : ℕ → ℕ → Fraction → Threshold
 answered n k T = record { number = n; rounds = k; value = T }
 
 abbrev pub refused : ℕ → Threshold
 refused n = answered n 0 (fraction 0 0)
+
+-- "a definition that gives this paper's number and values for each of the enum's cases"
+abbrev pub threshold_of : Result Resting Refusal → Threshold
+threshold_of (Ok r) = answered 0 r.rounds r.value
+threshold_of (Err r) = refused (number_of r)
 
 -- "0 | done"
 pub record Done (m : ℕ) (h : List ℕ) (r : Threshold) : Type 0 where

@@ -12,13 +12,7 @@ use arithmetic::values;
 pub(crate) fn countable(values: &[u16]) -> bool
     ensures { Unless (Countable values.now) (result ≡ false) (result ≡ true) }
 {
-    if values.len() < 1 {
-        return false;
-    }
-    if 1_048_576 < values.len() {
-        return false;
-    }
-    values::at_most(values, 2_040)
+    (1..=1_048_576).contains(&values.len()) && values::at_most(values, 2_040)
 }
 
 // The counts of values: an array that starts with a zero in each place, to which each value adds one.
@@ -29,23 +23,8 @@ pub(crate) fn counts_of(values: &[u16]) -> [u32; 256]
     ensures { Added values.now (length values.now) result }
 {
     let mut counts = [0u32; 256];
-    let mut i = 0usize;
-    while i < values.len() {
-        let level = (values[i] / 8) as usize;
-        counts[level] += 1;
-        i += 1;
+    for &value in values {
+        counts[usize::from(value / 8)] += 1;
     }
     counts
-}
-
-// Writes the counts into the lent histogram.
-pub(crate) fn put(counts: [u32; 256], histogram: &mut [u32])
-    requires { length histogram.old ≡ 256 }
-    ensures { histogram.new ≡ counts }
-{
-    let mut v = 0usize;
-    while v < 256 {
-        histogram[v] = counts[v];
-        v += 1;
-    }
 }

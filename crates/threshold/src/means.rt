@@ -1,98 +1,103 @@
 // The rounds until the threshold rests (document 01: "One round replaces T by half the sum of the
 // mean of all levels ≤ T and the mean of all levels ≥ T").
 ghost use Rattle.std.specs.Prelude.{◌≡◌, ◌+◌, ◌<◌, ◌≤◌, length};
-ghost use Rattle.arithmetic.specs.Fractions.{unlike};
 ghost use Rattle.threshold.specs.Histogram.{total};
-ghost use Rattle.threshold.specs.TwoMeans.{round as round_of, Within, Done};
+ghost use Rattle.threshold.specs.TwoMeans.{round as round_of, Within, Settled};
 ghost use Rattle.threshold.specs.Asked.{Tables, Small};
 
-use crate::{Threshold, ends};
-use answers::table;
+use crate::{Resting, ends};
 use arithmetic::Fraction;
 
-// Two tables, with a place for each level and for the one past the last: how many values lie below
-// it, and the sum of their levels. With them a round adds nothing up.
-pub(crate) fn fill(histogram: &[u32], below: &mut [u64], sums: &mut [u64])
-    requires histogram_len_bound { length histogram.now ≤ 2_048 }
-    requires below_len { (length below.old ≡ length histogram.now + 1) × (length sums.old ≡ length histogram.now + 1) }
-    ensures { Tables histogram.now below.new sums.new }
-{
-    let mut number = 0u64;
-    let mut sum = 0u64;
-    below[0] = number;
-    sums[0] = sum;
-    let mut v = 0usize;
-    while v < histogram.len() {
-        let count = histogram[v] as u64;
-        number += count;
-        sum += (v as u64) * count;
-        v += 1;
-        below[v] = number;
-        sums[v] = sum;
-    }
+// A histogram of 256 levels, summed up: for each level and for the one past the last, how many values lie
+// below it, and the sum of their levels. With them a round adds nothing up.
+#[derive(Drop)]
+pub(crate) struct Summed<'a> {
+    histogram: &'a [u32],
+    below: [u64; 257],
+    sums: [u64; 257],
+    ghost levels: { length histogram.now ≡ 256 },
+    ghost right: { Tables histogram.now below sums },
 }
 
-// One round from t. The levels up to t are those below the next whole number above t; the levels
-// from t on are those that are not below t, rounded up.
-fn round(histogram: &[u32], below: &[u64], sums: &[u64], t: Fraction) -> Fraction
-    requires tables { Tables histogram.now below.now sums.now × Small histogram.now }
-    requires histogram_nonzero { (0 < total histogram.now) × Within histogram.now t }
-    ensures { result ≡ round_of histogram.now t }
-{
-    let end = histogram.len();
-    let whole = t.numerator / t.denominator;
-    let up_to = (whole as usize) + 1;
-    let mut from = up_to;
-    if whole * t.denominator == t.numerator {
-        from = whole as usize;
+impl<'a> Summed<'a> {
+    pub(crate) fn of(histogram: &'a [u32]) -> Summed<'a>
+        requires { length histogram.now ≡ 256 }
+        ensures { result.histogram.now ≡ histogram.now }
+    {
+        let mut summed = Summed {
+            histogram,
+            below: [0; 257],
+            sums: [0; 257],
+        };
+        let mut number = 0u64;
+        let mut sum = 0u64;
+        for (v, &count) in histogram.iter().enumerate() {
+            let count = u64::from(count);
+            number += count;
+            sum += v as u64 * count;
+            summed.below[v + 1] = number;
+            summed.sums[v + 1] = sum;
+        }
+        summed
     }
-    let low_sum = sums[up_to];
-    let low_number = below[up_to];
-    let high_sum = sums[end] - sums[from];
-    let high_number = below[end] - below[from];
-    let numerator = low_sum * high_number + high_sum * low_number;
-    let denominator = 2 * low_number * high_number;
-    Fraction {
-        numerator,
-        denominator,
-    }
-}
 
-// Rounds from the start until one gives back what it was given. Nothing counts them down: that they
-// end is proved. After the first round equal thresholds are equal pairs (`same_pair`), so no product of
-// two pairs, which might have 90 bits, is needed. The start, v/1, is written over the first round's
-// denominator, so that it too is compared as a pair.
-pub(crate) fn settle(histogram: &[u32], below: &[u64], sums: &[u64], usual: usize) -> Threshold
-    requires tables { Tables histogram.now below.now sums.now × Small histogram.now }
-    requires histogram_nonzero { 0 < total histogram.now }
-    ensures { Done usual histogram.now result }
-{
-    let first = ends::start(histogram, usual) as u64;
-    let start = Fraction {
-        numerator: first,
-        denominator: 1,
-    };
-    let mut next = round(histogram, below, sums, start);
-    let mut t = Fraction {
-        numerator: first * next.denominator,
-        denominator: next.denominator,
-    };
-    let mut rounds = 0u64;
-    while differ(t, next) {
-        t = next;
-        next = round(histogram, below, sums, t);
-        rounds += 1;
+    // How many values there are.
+    pub(crate) fn total(&self) -> u64
+        ensures { result ≡ total self.now.histogram.now }
+    {
+        self.below[256]
     }
-    Threshold {
-        number: table::DONE,
-        rounds,
-        value: next,
-    }
-}
 
-// Whether two pairs differ in one of their numbers; as fractions they may be equal all the same.
-fn differ(t: Fraction, u: Fraction) -> bool
-    ensures { result ≡ unlike t u }
-{
-    (t.numerator != u.numerator) | (t.denominator != u.denominator)
+    // One round from t. The levels up to t are those below the next whole number above t; the levels
+    // from t on are those that are not below t, rounded up.
+    #[tactic(auto, using(crate::proofs::Tables::whole_last, crate::proofs::Tables::rounded_last))]
+    fn round(&self, t: Fraction) -> Fraction
+        requires small { Small self.now.histogram.now }
+        requires within { (0 < total self.now.histogram.now) × Within self.now.histogram.now t }
+        ensures { result ≡ round_of self.now.histogram.now t }
+    {
+        let up_to = (t.numerator / t.denominator) as usize + 1;
+        let from = t.numerator.div_ceil(t.denominator) as usize;
+        let low_sum = self.sums[up_to];
+        let low_number = self.below[up_to];
+        let high_sum = self.sums[256] - self.sums[from];
+        let high_number = self.below[256] - self.below[from];
+        let numerator = low_sum * high_number + high_sum * low_number;
+        let denominator = 2 * low_number * high_number;
+        Fraction {
+            numerator,
+            denominator,
+        }
+    }
+
+    // Rounds from the start until one gives back what it was given. Nothing counts them down: that they
+    // end is proved. After the first round equal thresholds are equal pairs (`same_pair`), so no product of
+    // two pairs, which might have 90 bits, is needed. The start, v/1, is written over the first round's
+    // denominator, so that it too is compared as a pair.
+    pub(crate) fn settle(&self, usual: usize) -> Resting
+        requires small { Small self.now.histogram.now }
+        requires some { 0 < total self.now.histogram.now }
+        ensures { Settled usual self.now.histogram.now result.rounds result.value }
+    {
+        let first = ends::start(self.histogram, usual) as u64;
+        let start = Fraction {
+            numerator: first,
+            denominator: 1,
+        };
+        let mut next = self.round(start);
+        let mut t = Fraction {
+            numerator: first * next.denominator,
+            denominator: next.denominator,
+        };
+        let mut rounds = 0u64;
+        while t != next {
+            t = next;
+            next = self.round(t);
+            rounds += 1;
+        }
+        Resting {
+            rounds,
+            value: next,
+        }
+    }
 }

@@ -1,6 +1,7 @@
 // What is never mixed (document 01: "Pixels, picometres and eighths of a level are kept apart").
 // Each unit is a type of its own, and its number stands in a private field: another crate makes one
-// with `of` and takes it apart with `amount`, in a conversion, and in no other way.
+// with `of` and takes it apart with `amount`, in a conversion, and in no other way. (Document 01 names a tuple
+// struct for each of the three, so they are no instances of one generic type.)
 #![tactic(auto)]
 
 ghost use Rattle.std.specs.Prelude.{◌≡◌};

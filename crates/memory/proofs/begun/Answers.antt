@@ -4,4 +4,6 @@ use Rattle.memory.proofs.Memories.{begun_told}
 use Rattle.memory.proofs.begun.Goals as goal
 
 pub returns : goal.returns
-returns c = begun_told c.args.held.now _ (omega arith) (omega arith, omega arith) (omega arith, omega arith) c.in_range.ensures
+returns c =
+    begun_told c.args.held.now _ (omega arith) (omega arith, omega arith) (omega arith, omega arith)
+    (rw c.from-width.ensures at c.in_range.ensures)

@@ -21,8 +21,8 @@ take_rows-requires c =
     let begun = told_yes c.begun.ensures (ap not c.if-not-begun.false) in
     let few : came_of held ≤ 65535 = omega arith in
     let whole : length levels % width_of held ≡ 0 = omega arith in
-    let within : length levels / width_of held ≤ height_of held - came_of held = omega (arith, c.less.ensures) in
-    let due_is = less_of c.less-2.ensures c.less-3.ensures in
+    let within : length levels / width_of held ≤ height_of held - came_of held = omega (arith, c.saturating_sub.ensures) in
+    let due_is = less_of c.saturating_sub-2.ensures c.saturating_sub-3.ensures in
     let room : due (came_of held) (length levels / width_of held) * width_of held ≤ length c.args.output.now =
     rw (← due_is) (omega arith)
     in
@@ -36,8 +36,8 @@ returns c =
     let begun = told_yes c.begun.ensures (ap not c.if-not-begun.false) in
     let few : came_of held ≤ 65535 = omega arith in
     let whole : length levels % width_of held ≡ 0 = omega arith in
-    let within : length levels / width_of held ≤ height_of held - came_of held = omega (arith, c.less.ensures) in
-    let due_is = less_of c.less-2.ensures c.less-3.ensures in
+    let within : length levels / width_of held ≤ height_of held - came_of held = omega (arith, c.saturating_sub.ensures) in
+    let due_is = less_of c.saturating_sub-2.ensures c.saturating_sub-3.ensures in
     let room : due (came_of held) (length levels / width_of held) * width_of held ≤ length c.args.output.now =
     rw (← due_is) (omega arith)
     in

@@ -10,4 +10,5 @@ returns c =
     let values = c.args.values.now in
     let ok : Countable values = told_yes c.countable.ensures (ap not c.if-not-countable.false) in
     goes_on c.if-histogram-ne256.false
-    (goes_on ok (count_done values c.counts_of-counts.result c.put.new.histogram ok c.counts_of-counts.ensures c.put.ensures))
+    (goes_on ok
+    (count_done values c.counts_of-counts.result c.copy_from_slice.new.self ok c.counts_of-counts.ensures c.copy_from_slice.ensures.after))

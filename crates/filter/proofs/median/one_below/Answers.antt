@@ -1,13 +1,19 @@
 -- below 32,768 the signed order is the order of natural numbers.
+use mathlib.Core.Path.{◌≡◌, refl, ◌∙◌}
+use mathlib.Core.Bool.{Bool, true, false, cond}
+use lib.Dec.{ltb}
+use mir.Val.{bool_byte}
 use native.Mathlib.Omega.{arith}
-use mathlib.Core.Path.{sym}
 use mir.Syntax.{w16}
-use Rattle.arithmetic.proofs.Casts.{signed_less, signed_not_less}
-use Rattle.filter.proofs.Ranks.{one_where_below, none_where_below}
+use mir.ValLaws.{to_z_pos}
+use Rattle.filter.specs.Counting.{one_below}
 use Rattle.filter.proofs.median.one_below.Goals as goal
 
-pub returns-then-a-b : goal.returns-then-a-b
-returns-then-a-b c = sym (one_where_below c.args.a c.args.b (signed_less w16 c.args.a c.args.b (omega arith) (omega arith) c.if-a-b.true))
+byte_is : (t : Bool) → bool_byte t ≡ cond t 1 0
+byte_is true = refl
+byte_is false = refl
 
 pub returns : goal.returns
-returns c = sym (none_where_below c.args.a c.args.b (signed_not_less w16 c.args.a c.args.b (omega arith) (omega arith) c.if-a-b.false))
+unfolding one_below
+returns c =
+    c.from.ensures ∙ rw (to_z_pos w16 c.args.a (omega arith), to_z_pos w16 c.args.b (omega arith)) (byte_is (ltb c.args.a c.args.b))

@@ -1,34 +1,40 @@
--- the first row, the inner rows and the last row are in their places, one after the other.
-use Rattle.std.proofs.Common.{◌≡◌, ◌-◌, ◌≤◌, length, take}
-use mathlib.Core.Path.{refl, ◌∙◌}
-use native.Mathlib.Omega.{arith}
-use lib.ListN.{length-take, length-drop}
-use native.Mathlib.Nat.{zero-mul}
-use borrow.Rule.Slice.PartMut.{same_len_mid}
-use lib.Seq.{length_front}
+-- after j rows of the pass they are in their places (`row_more`).
+use Rattle.std.proofs.Common.{◌≡◌, ◌∙◌, sym, refl, ◌*◌, length, arith}
+use Rattle.std.proofs.Math.ListN.{length-take, length-drop}
+use Rattle.std.proofs.Math.Seq.{take_all}
+use native.Mathlib.Nat.{zero-mul, mul_comm}
+use Rattle.arithmetic.specs.Lists.{joined}
 use Rattle.arithmetic.proofs.Order.{row_end}
-use Rattle.filter.proofs.Parts.{single_is, last_in}
+use Rattle.filter.specs.Median.{pass}
+use Rattle.filter.proofs.Parts.{lent, lent_is, row_more, next_row}
 use Rattle.filter.proofs.passes.one_pass.Goals as goal
 
-pub returns-then-height-eq1 : goal.returns-then-height-eq1
-returns-then-height-eq1 c =
-    c.one_row.ensures ∙ single_is c.args.width c.args.height c.args.values.now c.if-height-eq1.true c.requires.0.whole
+pub loop-j-init : goal.loop-j-init
+unfolding joined
+loop-j-init c = rw (zero-mul c.args.width) refl
 
--- once the first row is in the buffer is as long as before, and so it is once the inner rows are in
-pub returns : goal.returns
-returns c =
+pub any_row-requires-clause-row_or_none : goal.any_row-requires-clause-row_or_none
+any_row-requires-clause-row_or_none c =
+    lent c.args.width c.args.height c.loop-j.j c.args.values.now c.requires.0 (omega arith) _ _ c.saturating_sub.ensures c.min.ensures
+
+pub loop-j-preserved : goal.loop-j-preserved
+loop-j-preserved c =
     let w = c.args.width in
-    let h = c.args.height in
-    let p = c.requires.0 in
-    let front : length (take w c.args.out.now) ≡ w =
-    simp length-take (omega (arith, row_end w h 0 p.sides.1.0, zero-mul w, c.requires.1))
-    in
-    let long = c.inner_rows.auto.out ∙ length_front c.args.out.now c.first_row.new.out w c.first_row.auto.out ∙ c.requires.1 in
-    let room : w ≤ length c.inner_rows.new.out = omega (arith, row_end w h 0 p.sides.1.0, zero-mul w, long) in
-    let filled = c.inner_rows.new.out in
-    let kept = c.last_row.auto.out in
-    last_in w h (length filled - w) c.args.values.now filled c.last_row.new.out _ p.sides.1.0 long refl
-    (kept ∙ simp (length-take, length-drop) (omega (arith, room)))
-    (same_len_mid (length filled - w) (length filled - (length filled - w)) filled c.last_row.new.out kept)
-    c.inner_rows.ensures
-    c.last_row.ensures
+    let l = c.loop-j in
+    let at = l.j * w in
+    let inside = row_end w c.args.height l.j (omega arith) in
+    let long : length c.any_row.new.out ≡ w =
+    c.any_row.auto.out ∙ simp (length-take, length-drop) (omega (arith, inside, l.auto.out, c.requires.1)) in
+    let is = c.any_row.ensures
+    ∙ lent_is w c.args.height l.j c.args.values.now c.requires.0 (omega arith) _ _ c.saturating_sub.ensures c.min.ensures in
+    rw (← next_row w l.j at refl)
+    (row_more w l.j at c.args.values.now l.out c.any_row.new.out _ long (omega (arith, inside, l.auto.out, c.requires.1)) l.invariant is)
+
+pub returns : goal.returns
+unfolding pass
+returns c =
+    let all : c.loop-j.j ≡ c.args.height = omega arith in
+    let there = rw all at c.loop-j.invariant in
+    sym (take_all (c.args.height * c.args.width) c.loop-j.out
+    (omega (arith, c.loop-j.auto.out, c.requires.1, mul_comm c.args.height c.args.width)))
+    ∙ there

@@ -1,13 +1,33 @@
--- each number of rows has its own function.
-use mathlib.Core.Path.{◌∙◌}
-use native.Mathlib.Omega.{arith}
-use Rattle.filter.proofs.RowOutcomes.{none_here, last, there}
+-- rows that are not there are dropped (`only_makes` and so on).
+use Rattle.std.proofs.Common.{◌≡◌, ◌∙◌, sym, List, ℕ, Bool, true, length}
+use Rattle.std.specs.Bool.{◌==◌}
+use Rattle.std.proofs.lemmas.Bool.{eqb-true}
+use Rattle.filter.proofs.RowOutcomes.{none_here}
+use Rattle.filter.proofs.Blocks.{only_makes, first_makes, last_makes, three_make}
 use Rattle.filter.proofs.rows.any_row.Goals as goal
 
-pub returns-then-here-eq0 : goal.returns-then-here-eq0
-returns-then-here-eq0 c = none_here c.args.above.now c.args.here.now c.args.below.now c.args.out.now (omega arith) c.requires.out_len
+empty : (l : List ℕ) (t : Bool) → t ≡ (length l == 0) → t ≡ true → length l ≡ 0
+empty l t is holds = eqb-true (length l) 0 (sym is ∙ holds)
 
-pub returns-then-below-eq0-2 : goal.returns-then-below-eq0-2
-returns-then-below-eq0-2 c =
-    let upper = there c.args.above.now c.if-above-eq0.false c.requires.row_or_none.0 in
-    c.two_rows-then-below-eq0-2.ensures ∙ last c.args.above.now c.args.here.now c.args.below.now (omega arith) upper.0
+pub returns-then-is_empty : goal.returns-then-is_empty
+returns-then-is_empty c =
+    let none = empty _ _ c.is_empty.ensures c.if-is_empty.true in
+    none_here c.args.above.now c.args.here.now c.args.below.now c.args.out.now none c.requires.out_len
+
+pub returns-then-is_empty-3 : goal.returns-then-is_empty-3
+returns-then-is_empty-3 c =
+    c.make.ensures ∙ rw c.requires.out_len (only_makes c.args.above.now c.args.here.now c.args.below.now
+    (empty _ _ c.is_empty-2.ensures c.if-is_empty-2.true) (empty _ _ c.is_empty-then-is_empty-2.ensures c.if-is_empty-3.true))
+
+pub returns-then-is_empty-2 : goal.returns-then-is_empty-2
+returns-then-is_empty-2 c =
+    c.make-then-is_empty-2.ensures ∙ rw c.requires.out_len (first_makes c.args.above.now c.args.here.now c.args.below.now
+    (empty _ _ c.is_empty-2.ensures c.if-is_empty-2.true))
+
+pub returns-then-is_empty-4 : goal.returns-then-is_empty-4
+returns-then-is_empty-4 c =
+    c.make-then-is_empty-4.ensures ∙ rw c.requires.out_len (last_makes c.args.above.now c.args.here.now c.args.below.now
+    (empty _ _ c.is_empty-3.ensures c.if-is_empty-4.true))
+
+pub returns : goal.returns
+returns c = c.make-2.ensures ∙ rw c.requires.out_len (three_make c.args.above.now c.args.here.now c.args.below.now)

@@ -1,12 +1,10 @@
--- each store is what stands there in the row (`cell_of_three`), and `Stored` says how many are there.
-use Prim.Native.Nat.{◌-◌}
-use lib.ListN.{length}
-use Rattle.filter.specs.Median.{row_of}
+-- at column i those before it are there (`Stored`).
+use Rattle.std.proofs.Common.{length, take}
+use Rattle.filter.specs.Asked.{lists, made_of}
 use Rattle.filter.proofs.Filling.{Stored}
 use Rattle.filter.proofs.rows.columns.Given as goal
 
 abbrev pub invariant-loop-i : goal.invariant-loop-i
-invariant-loop-i l = Stored (row_of l.above l.here l.below) (length l.here) l.end l.out l.i
-
-abbrev pub decreases-loop-i : goal.decreases-loop-i
-decreases-loop-i l = l.end - l.i
+invariant-loop-i g l =
+    let n = length l.initial.out in
+    Stored (made_of n (take g.row.N (lists l.rows))) n l.end l.out l.i

@@ -1,10 +1,6 @@
--- after each band the two are the sums over the bands so far.
-use Prim.Native.Nat.{◌-◌, ◌≤◌}
-use Rattle.judge.proofs.Tiles.{Bands}
+-- after each tile the two are the sums over the tiles so far.
+use Rattle.judge.proofs.Tiles.{Tiles}
 use Rattle.judge.proofs.extremes.of_tiles.Given as goal
 
-abbrev pub invariant-loop-b : goal.invariant-loop-b
-invariant-loop-b l = (l.b ≤ 4) × Bands l.width l.height l.filtered l.bright l.dark l.at l.b
-
-abbrev pub decreases-loop-b : goal.decreases-loop-b
-decreases-loop-b l = 4 - l.b
+abbrev pub invariant-loop-tile : goal.invariant-loop-tile
+invariant-loop-tile l = Tiles l.picture.width l.picture.height l.picture.filtered.now l.bright l.dark l.tile

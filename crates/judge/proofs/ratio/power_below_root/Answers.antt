@@ -1,6 +1,6 @@
--- each turn doubles the power and divides what is left of d by 4.
-use Rattle.judge.proofs.Ratios.{quartered_more}
+-- half of the bits of d.
+use Rattle.judge.proofs.Ratios.{below_root}
 use Rattle.judge.proofs.ratio.power_below_root.Goals as goal
 
-pub loop-rest-preserved : goal.loop-rest-preserved
-loop-rest-preserved c = quartered_more c.loop-rest.invariant c.loop-rest-test.true
+pub returns : goal.returns
+returns c = below_root c.args.d c.ilog2.result c.ilog2.ensures.bound c.ilog2.ensures.power_le c.ilog2.ensures.next_power_gt

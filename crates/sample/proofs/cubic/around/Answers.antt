@@ -5,10 +5,10 @@ use Rattle.arithmetic.specs.Lists.{AtMost}
 use Rattle.arithmetic.specs.Sums.{sumℤ}
 use Rattle.arithmetic.proofs.SignedSums.{sumℤ_none, sumℤ_more}
 use Rattle.arithmetic.proofs.Casts.{product_fits, sum_fits, sum_gives}
-use Rattle.sample.specs.declared.Coordinate.{Coordinate}
+use Rattle.sample.specs.declared.coordinate.Coordinate.{Coordinate}
 use Rattle.sample.specs.Cubic.{weight}
 use Rattle.sample.specs.Asked.{row_sum, row_start, row_term}
-use Rattle.sample.proofs.Rows.{sample_done, first_start, next_start}
+use Rattle.sample.proofs.Rows.{sample_done, row_in}
 use Rattle.sample.proofs.Reach.{row_fits, rows_fit}
 use Rattle.sample.proofs.cubic.around.Goals as goal
 use Rattle.sample.proofs.cubic.around.Goals.{After-row_sum}
@@ -32,22 +32,23 @@ module _ (c : After-row_sum) where
   is_row =
       to_z-of_z w64 c.row_sum.result (record { sfits = c.row_sum.type_inv })
       ∙ c.row_sum.ensures
-      ∙ ap (λ (at : ℕ). row_sum c.args.levels.now at c.args.column.remainder) c.loop-r.invariant.1.0
+      ∙ ap (λ (at : ℕ). row_sum c.args.levels.now at c.args.column.remainder) (omega arith)
 
   room : FitsSigned w64 (terms c.loop-r.r)
   room =
-      let small = c.requires.remainder_bound in
-      row_fits c.args.levels.now bytes _ _ _ _ _ small.0 small.1 c.loop-r.r c.loop-r-test.true
+      row_fits c.args.levels.now bytes _ _ _ _ _ c.args.column.sixteenths c.args.row.sixteenths c.loop-r.r (omega arith)
 
   more : FitsSigned w64 (sumℤ c.loop-r.r terms +ℤ terms c.loop-r.r)
   more =
-      let small = c.requires.remainder_bound in
-      rows_fit c.args.levels.now bytes _ _ _ _ _ small.0 small.1 c.loop-r.r c.loop-r-test.true
+      rows_fit c.args.levels.now bytes _ _ _ _ _ c.args.column.sixteenths c.args.row.sixteenths c.loop-r.r (omega arith)
 
 pub loop-r-init : goal.loop-r-init
 loop-r-init c =
     let a = c.args in
-    (omega arith, (first_start a.width a.column.pixel a.row.pixel, sym (sumℤ_none (row_terms a.levels.now a.width a.column a.row))))
+    sym (sumℤ_none (row_terms a.levels.now a.width a.column a.row))
+
+pub row_sum-requires : goal.row_sum-requires
+row_sum-requires c = omega (arith, row_in c.requires c.loop-r.r c.loop-r-test.true)
 
 pub overflow_mul-sum : goal.overflow_mul-sum
 overflow_mul-sum c =
@@ -57,18 +58,16 @@ overflow_mul-sum c =
 pub overflow_add-sum : goal.overflow_add-sum
 overflow_add-sum c =
     let w = (goal.at.overflow_add-sum c).After-row_sum in
-    sum_fits w64 (is_weight w) (is_row w) (room w) c.loop-r.invariant.1.1 (more w)
+    sum_fits w64 (is_weight w) (is_row w) (room w) c.loop-r.invariant (more w)
 
 pub loop-r-preserved : goal.loop-r-preserved
 loop-r-preserved c =
     let w = (goal.at.loop-r-preserved c).After-row_sum in
-    let next = sum_gives w64 (is_weight w) (is_row w) (room w) c.loop-r.invariant.1.1 (more w) in
-    let a = c.args in
-    let at = next_start a.width a.column.pixel a.row.pixel c.loop-r.r c.loop-r.invariant.1.0 in
-    (omega arith, (at, next ∙ sym (sumℤ_more c.loop-r.r (terms w))))
+    let next = sum_gives w64 (is_weight w) (is_row w) (room w) c.loop-r.invariant (more w) in
+    next ∙ sym (sumℤ_more c.loop-r.r (terms w))
 
 pub returns : goal.returns
 returns c =
     let a = c.args in
-    sample_done a.levels.now a.width a.column.pixel a.row.pixel a.column.remainder a.row.remainder c.loop-r.invariant.0 c.loop-r-test.false
-    c.loop-r.invariant.1.1
+    sample_done a.levels.now a.width a.column.pixel a.row.pixel a.column.remainder a.row.remainder c.loop-r.auto.r-end (omega arith)
+    c.loop-r.invariant

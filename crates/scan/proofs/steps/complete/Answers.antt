@@ -32,23 +32,24 @@ facts w h k late two row given =
 
 pub returns-then-n-eq0 : goal.returns-then-n-eq0
 returns-then-n-eq0 c =
-    none_completed c.args.width c.args.height c.args.k c.args.late c.args.two.now c.args.row.now c.args.out.now
+    none_completed c.args.place.width c.args.place.height c.args.place.k c.args.late c.args.two.now c.args.row.now c.args.out.now
     c.requires.0 _ c.long-n.ensures
     (omega arith)
 
 pub overflow_add-older_end : goal.overflow_add-older_end
 overflow_add-older_end c =
-    omega (arith, facts c.args.width c.args.height c.args.k c.args.late c.args.two.now c.args.row.now c.requires.0)
+    omega (arith, facts c.args.place.width c.args.place.height c.args.place.k c.args.late c.args.two.now c.args.row.now c.requires.0)
 
 pub slice_bounds-row-end : goal.slice_bounds-row-end
 slice_bounds-row-end c =
-    omega (arith, facts c.args.width c.args.height c.args.k c.args.late c.args.two.now c.args.row.now c.requires.0)
+    omega (arith, facts c.args.place.width c.args.place.height c.args.place.k c.args.late c.args.two.now c.args.row.now c.requires.0)
 
 pub slice_bounds-row-end-2 : goal.slice_bounds-row-end-2
 slice_bounds-row-end-2 c =
-    omega (arith, facts c.args.width c.args.height c.args.k c.args.late c.args.two.now c.args.row.now c.requires.0)
+    omega (arith, facts c.args.place.width c.args.place.height c.args.place.k c.args.late c.args.two.now c.args.row.now c.requires.0)
 
 pub returns : goal.returns
 returns c =
-    row_completed c.args.width c.args.height c.args.k c.args.late c.args.two.now c.args.row.now c.args.out.now c.requires.0 _ _
-    c.long-n.ensures c.long.ensures c.if-n-eq0.false c.requires.1 _ c.row.ensures
+    row_completed c.args.place.width c.args.place.height c.args.place.k c.args.late c.args.two.now c.args.row.now c.args.out.now
+    c.requires.0 _ _
+    c.long-n.ensures c.long.ensures c.if-n-eq0.false c.requires.1 _ c.row-done.ensures

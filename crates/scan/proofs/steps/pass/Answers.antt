@@ -4,4 +4,5 @@ use Rattle.scan.proofs.steps.pass.Goals as goal
 
 pub returns-clause-two_after : goal.returns-clause-two_after
 returns-clause-two_after c =
-    is_replaced c.args.width c.args.height c.args.k c.args.late c.args.two.now c.args.row.now _ c.put.ensures
+    let p = c.args.place in
+    is_replaced p.width p.height p.k c.args.late c.args.two.now c.args.row.now _ c.put.ensures

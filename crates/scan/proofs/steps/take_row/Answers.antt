@@ -29,22 +29,39 @@ module _ {w h k : ℕ} {rows levels : List ℕ} (arriving : Arriving w h k rows 
 
 pub widen-requires : goal.widen-requires
 widen-requires c =
-    omega (arith, c.requires.ready.1, long_most c.args.height c.args.k 0 c.args.width, c.requires.width_in_bounds.0)
+    omega (arith, c.requires.ready.1, long_most c.args.place.height c.args.place.k 0 c.args.place.width, c.requires.width_in_bounds.0)
 
 pub pass-requires : goal.pass-requires
 pass-requires c =
     let arriving = arriving_is c.args.levels.now c.requires.ready.0 c.requires.ready.1 c.type_inv.levels in
-    let part_is = widened_is arriving _ _ c.widen.ensures in
-    (first_asks arriving _ part_is, le_trans (long_most c.args.height c.args.k 1 c.args.width) c.requires.width_in_bounds.1)
+    let part_is = widened_is arriving _ _ c.widen.ensures in (
+      first_asks arriving _ part_is,
+      le_trans (long_most c.args.place.height c.args.place.k 1 c.args.place.width)
+          c.requires.width_in_bounds.1,
+    )
 
 pub slice_bounds-pass-end-6 : goal.slice_bounds-pass-end-6
 slice_bounds-pass-end-6 c =
-    omega (arith, c.pass.auto.out, c.long-n1.ensures, long_most c.args.height c.args.k 1 c.args.width, c.requires.width_in_bounds.1)
+    omega (
+      arith,
+      c.pass.auto.out,
+      c.long-n1.ensures,
+      long_most c.args.place.height c.args.place.k 1
+          c.args.place.width,
+      c.requires.width_in_bounds.1,
+    )
 
 pub slice_bounds-pass-end-7 : goal.slice_bounds-pass-end-7
 slice_bounds-pass-end-7 c =
     let room : c.long-n1.result ≤ length c.pass.new.out =
-    omega (arith, c.pass.auto.out, c.long-n1.ensures, long_most c.args.height c.args.k 1 c.args.width, c.requires.width_in_bounds.1)
+    omega (
+      arith,
+      c.pass.auto.out,
+      c.long-n1.ensures,
+      long_most c.args.place.height c.args.place.k 1
+          c.args.place.width,
+      c.requires.width_in_bounds.1,
+    )
     in
     sym (length-take-le _ _ room)
 
@@ -52,17 +69,31 @@ pub pass-requires-2 : goal.pass-requires-2
 pass-requires-2 c =
     let arriving = arriving_is c.args.levels.now c.requires.ready.0 c.requires.ready.1 c.type_inv.levels in
     let one = one_made arriving _ _ c.widen.ensures c.pass.ensures.two_after c.pass.ensures.out_after in
-    let room = le_trans (long_most c.args.height c.args.k 2 c.args.width) c.requires.width_in_bounds.2 in
+    let room = le_trans (long_most c.args.place.height c.args.place.k 2 c.args.place.width) c.requires.width_in_bounds.2 in
     (second_asks arriving one _ c.long-n1.ensures, room)
 
 pub slice_bounds-pass-end-9 : goal.slice_bounds-pass-end-9
 slice_bounds-pass-end-9 c =
-    omega (arith, c.pass-2.auto.out, c.long-n2.ensures, long_most c.args.height c.args.k 2 c.args.width, c.requires.width_in_bounds.2)
+    omega (
+      arith,
+      c.pass-2.auto.out,
+      c.long-n2.ensures,
+      long_most c.args.place.height c.args.place.k 2
+          c.args.place.width,
+      c.requires.width_in_bounds.2,
+    )
 
 pub slice_bounds-pass-end-10 : goal.slice_bounds-pass-end-10
 slice_bounds-pass-end-10 c =
     let room : c.long-n2.result ≤ length c.pass-2.new.out =
-    omega (arith, c.pass-2.auto.out, c.long-n2.ensures, long_most c.args.height c.args.k 2 c.args.width, c.requires.width_in_bounds.2)
+    omega (
+      arith,
+      c.pass-2.auto.out,
+      c.long-n2.ensures,
+      long_most c.args.place.height c.args.place.k 2
+          c.args.place.width,
+      c.requires.width_in_bounds.2,
+    )
     in
     sym (length-take-le _ _ room)
 

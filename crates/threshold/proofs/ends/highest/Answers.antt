@@ -1,26 +1,18 @@
--- The highest level present lies below the end, sooner than a level that is not counted, and at the first that is.
-use Rattle.std.proofs.Common.{arith}
-use Rattle.threshold.proofs.Present.{highest_below, highest_sooner, highest_here}
+-- What is found is the highest level present, since the total is not 0.
+use Rattle.std.proofs.Common.{◌≡◌, rules}
+use Rattle.std.specs.Prelude.{Some}
+use Rattle.threshold.specs.TwoMeans.{highest}
+use Rattle.threshold.proofs.Present.{LastCounted, last_counted}
 use Rattle.threshold.proofs.ends.highest.Goals as goal
+use Rattle.threshold.proofs.ends.highest.Goals.{After-rposition}
 
-pub overflow_sub-v : goal.overflow_sub-v
-overflow_sub-v c = omega (arith, highest_below c.args.histogram.now c.requires)
+found : (c : After-rposition) → c.rposition.result ≡ Some (highest c.args.histogram.now)
+found c =
+    let last : LastCounted c.args.histogram.now c.requires c.rposition.result = search rules in
+    last_counted c.args.histogram.now c.requires c.rposition.result last
 
-pub loop-v-init : goal.loop-v-init
-loop-v-init c =
-    let b = highest_below c.args.histogram.now c.requires in
-    (omega arith, omega arith)
-
-pub overflow_sub-v-in-loop-v : goal.overflow_sub-v-in-loop-v
-overflow_sub-v-in-loop-v c = omega (arith, highest_sooner _ c.requires _ c.loop-v.invariant.0 c.loop-v-test.true)
-
-pub loop-v-smaller : goal.loop-v-smaller
-loop-v-smaller c = omega (arith, highest_sooner _ c.requires _ c.loop-v.invariant.0 c.loop-v-test.true)
-
-pub loop-v-preserved : goal.loop-v-preserved
-loop-v-preserved c =
-    let b = highest_sooner _ c.requires _ c.loop-v.invariant.0 c.loop-v-test.true in
-    (omega arith, omega arith)
+pub unwrap-requires : goal.unwrap-requires
+unwrap-requires c = rw (found c)
 
 pub returns : goal.returns
-returns c = highest_here _ c.requires _ c.loop-v.invariant.0 c.loop-v-test.false
+returns c = let is = found (goal.at.returns c).After-rposition in cc

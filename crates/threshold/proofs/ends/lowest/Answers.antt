@@ -1,14 +1,18 @@
--- The lowest level present lies below the end, later than a level that is not counted, and at the first that is.
-use Rattle.std.proofs.Common.{arith}
-use Rattle.threshold.proofs.Present.{lowest_below, lowest_later, lowest_here}
+-- What is found is the lowest level present, since the total is not 0.
+use Rattle.std.proofs.Common.{◌≡◌, rules}
+use Rattle.std.specs.Prelude.{Some}
+use Rattle.threshold.specs.TwoMeans.{lowest}
+use Rattle.threshold.proofs.Present.{FirstCounted, first_counted}
 use Rattle.threshold.proofs.ends.lowest.Goals as goal
+use Rattle.threshold.proofs.ends.lowest.Goals.{After-position}
 
-pub loop-v-init : goal.loop-v-init
-loop-v-init c = (omega arith, lowest_below c.args.histogram.now c.requires)
+found : (c : After-position) → c.position.result ≡ Some (lowest c.args.histogram.now)
+found c =
+    let first : FirstCounted c.args.histogram.now c.requires c.position.result = search rules in
+    first_counted c.args.histogram.now c.requires c.position.result first
 
-pub loop-v-preserved : goal.loop-v-preserved
-loop-v-preserved c =
-    (lowest_later _ c.requires c.loop-v.v c.loop-v.invariant.0 c.loop-v-test.true, c.loop-v.invariant.1)
+pub unwrap-requires : goal.unwrap-requires
+unwrap-requires c = rw (found c)
 
 pub returns : goal.returns
-returns c = lowest_here _ c.requires _ c.loop-v.invariant.0 c.loop-v-test.false
+returns c = let is = found (goal.at.returns c).After-position in cc

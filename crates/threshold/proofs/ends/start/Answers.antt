@@ -1,12 +1,10 @@
--- The tests are those of the definition.
-use Rattle.threshold.proofs.Present.{start_low, start_high, start_usual}
+-- The usual start is kept between the two ends, which are in order.
+use Rattle.std.proofs.Common.{arith}
+use Rattle.threshold.proofs.Present.{in_order, start_is}
 use Rattle.threshold.proofs.ends.start.Goals as goal
 
-pub returns-then-usual-low : goal.returns-then-usual-low
-returns-then-usual-low c = start_low _ _ c.lowest-low.ensures c.highest-high.ensures c.if-usual-low.true
-
-pub returns-then-high-usual : goal.returns-then-high-usual
-returns-then-high-usual c = start_high _ _ c.lowest-low.ensures c.highest-high.ensures c.if-usual-low.false c.if-high-usual.true
+pub clamp-requires : goal.clamp-requires
+clamp-requires c = omega (arith, in_order c.args.histogram.now c.requires)
 
 pub returns : goal.returns
-returns c = start_usual _ _ c.lowest-low.ensures c.highest-high.ensures c.if-usual-low.false c.if-high-usual.false
+returns c = start_is c.args.usual c.args.histogram.now c.requires (rw (← c.lowest.ensures, ← c.highest.ensures) c.clamp.ensures)
