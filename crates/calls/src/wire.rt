@@ -9,7 +9,7 @@ ghost use Rattle.calls.specs.Space.{argument};
 use arithmetic::bytes;
 use units::Sixteenths;
 
-// The eight bytes from `at` on.
+// The eight bytes from `at` on. (`try_into` would give a `Result` that cannot fail.)
 fn eight(b: &[u8], at: usize) -> [u8; 8]
     requires { at + 8 ≤ length b.now }
     ensures { eight_bytes result 0 ≡ eight_bytes b.now at }

@@ -122,7 +122,7 @@ impl Kind {
     }
 }
 
-// The size of a pixel: four bytes, the low one first.
+// The size of a pixel: four bytes, the low one first. (`try_into` would give a `Result` that cannot fail.)
 fn pixel_size(input: &[u8], start: usize) -> Picometres
     requires { start + 4 ≤ length input.now }
     ensures { result ≡ picometres (four_bytes input.now start) }

@@ -13,6 +13,7 @@ mod steps;
 
 // Rows come, one or several or none: the rows of the filtered picture that they complete go to the front
 // of the output. Refused by 1, 20, 21 and 3, in this order, with nothing changed.
+// (Its first lines are those of `end` too: a function for them would have to promise again all that `begun` says of the memory.)
 pub fn rows(held: &mut [u16], levels: &[u8], output: &mut [u16]) -> Result<usize, Refusal>
     ensures { RowsIs held.old levels.now output.old (scanned (told result) (result_unwrap_or result 0) held.new output.new) }
 {

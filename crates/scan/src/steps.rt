@@ -56,7 +56,8 @@ pub(crate) fn take_rows(
 }
 
 // A row of levels comes, or one that is not there: pass by pass, each with the row that the pass before
-// completed. The row of pass three goes to the front of `out`.
+// completed. The row of pass three goes to the front of `out`. (The three rooms for rows on their way come
+// from one loop alone, so that a struct for them would be no plainer.)
 fn take_row(
     rows: &mut [u16],
     place: Place,

@@ -1,4 +1,5 @@
-// Numbers as text: their decimal digits, put into a block of bytes that a program then writes.
+// Numbers as text: their decimal digits, put into a block of bytes that a program then writes. (A block and a place in it, and no
+// struct of the two: what is promised is every byte of the block, and where the text ends.)
 #![tactic(auto)]
 
 ghost use Rattle.std.specs.Prelude.{◌+◌, ◌≤◌, length};

@@ -9,7 +9,8 @@ use crate::{Resting, ends};
 use arithmetic::Fraction;
 
 // A histogram of 256 levels, summed up: for each level and for the one past the last, how many values lie
-// below it, and the sum of their levels. With them a round adds nothing up.
+// below it, and the sum of their levels. With them a round adds nothing up. (Two arrays, since the law over
+// them, `Tables`, is of two lists, of any number of levels.)
 #[derive(Drop)]
 pub(crate) struct Summed<'a> {
     histogram: &'a [u32],
