@@ -38,6 +38,9 @@ by_neighbours {P} {k} falling at past =
 -- The law of halving. An interval has numbers in it; its middle becomes its lower end where it has the property, and its
 -- upper end where it does not; and an interval of width 1 is the answer.
 module _ {P : ℕ → Type 0} {lo hi : ℕ} (in-it : Between P lo hi) where
+  pub not_empty : lo < hi
+  not_empty = in-it.high lo in-it.low
+
   pub upper_half : {mid : ℕ} → P mid → Between P mid hi
   upper_half at = record { low = at; high = in-it.high }
 

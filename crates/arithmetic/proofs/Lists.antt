@@ -100,6 +100,10 @@ pub record Written (f : ℕ → ℕ) (n : ℕ) (l : List ℕ) (i : ℕ) : Type 0
   pub places : length l ≡ n
   pub are : (v : ℕ) → v < i → get_or l v 0 ≡ f v
 
+-- before the first is set
+pub written_none : (f : ℕ → ℕ) {n : ℕ} (l : List ℕ) → length l ≡ n → Written f n l 0
+written_none f l long = record { places = long; are = λ v h. absurd (let z : ⊥ = omega arith in z) }
+
 -- one place more
 pub written_more : (f : ℕ → ℕ) {n : ℕ} (l : List ℕ) (i x : ℕ) → i < n → x ≡ f i → Written f n l i → Written f n (set l i x) (i + 1)
 written_more f l i x here is so_far = record { places = length-set l i x ∙ so_far.places; are = are }

@@ -1,7 +1,7 @@
 -- Laws of order: of two numbers one is at most the other, of squares, where rows end, and the order of ℤ beside that of ℕ. Assumes nothing.
 use mathlib.Core.Path.{◌≡◌, refl}
 use mathlib.Core.Logic.{◌⊎◌, inl, inr}
-use Prim.Native.Nat.{ℕ, ◌+◌, ◌*◌, ◌<◌, ◌≤◌}
+use Prim.Native.Nat.{ℕ, ◌+◌, ◌*◌, ◌<◌, ◌≤◌, zero-le}
 use native.Mathlib.Nat.{lt_of_not-le, lt_irrefl, mul-le-mul, mul-le-mul_right, suc-mul, mul_comm}
 use native.Mathlib.Omega.{arith}
 use native.Mathlib.Decide.{dec_le}
@@ -29,6 +29,15 @@ to_ℤ {m} {n} h = record { le = le→leb m n h }
 
 pub of_ℤ : {m n : ℕ} → pos m ≤ℤ pos n → m ≤ n
 of_ℤ {m} {n} h = leb→le m n h.le
+
+-- the bounds of a signed number are those of the natural one that stands for it
+pub low_natural : (z : ℤ) {k : ℕ} → pos k ≤ℤ z → k ≤ nat_of z
+low_natural (pos n) h = of_ℤ h
+low_natural (negsuc n) h = absurd h.le
+
+pub high_natural : (z : ℤ) {k : ℕ} → z ≤ℤ pos k → nat_of z ≤ k
+high_natural (pos n) h = of_ℤ h
+high_natural (negsuc n) h = zero-le
 
 -- a natural number above 0 stands for no other signed number
 pub positive : (z : ℤ) → 0 < nat_of z → z ≡ pos (nat_of z)

@@ -2,9 +2,7 @@
 // nothing has been answered.
 use crate::answer::Text;
 use crate::{Stop, asked, request};
-use answers::Refusal;
 use streams::Failed;
-use units::Picometres;
 
 // `f`: levels, width, height, output, work.
 pub(crate) fn filter(
@@ -92,7 +90,7 @@ pub(crate) fn rows(
     let n = request::levels(rt, levels)?;
     let long = request::buffer(rt, one)?;
     let output = &mut one[..long];
-    let given = scan::rows(held, &levels[..n], output);
+    let given = asked::rows(held, &levels[..n], output);
     Ok(rows_given(rt, text, b'r', given, output)?)
 }
 
@@ -105,7 +103,7 @@ pub(crate) fn end(
 ) -> Result<(), Stop> {
     let long = request::buffer(rt, one)?;
     let output = &mut one[..long];
-    let given = scan::end(held, output);
+    let given = asked::end(held, output);
     Ok(rows_given(rt, text, b'z', given, output)?)
 }
 
@@ -114,11 +112,11 @@ fn rows_given(
     rt: &HostRuntime,
     text: &mut Text,
     letter: u8,
-    given: Result<usize, Refusal>,
+    given: (u8, u64),
     output: &[u16],
 ) -> Result<(), Failed> {
-    let rows = given.unwrap_or(0) as u64;
-    text.line(rt, letter, &[u64::from(answers::number(given)), rows])?;
+    let (number, rows) = given;
+    text.line(rt, letter, &[u64::from(number), rows])?;
     text.elements(rt, output)?;
     text.send(rt)
 }
@@ -150,19 +148,18 @@ pub(crate) fn count(
 // `t`: histogram.
 pub(crate) fn two_means(rt: &HostRuntime, text: &mut Text, counts: &mut [u32]) -> Result<(), Stop> {
     let places = request::slice(rt, counts)?;
-    let answer = threshold::two_means(&counts[..places]);
-    let number = u64::from(answers::number(answer));
-    match answer {
-        Ok(rest) => {
-            let value = rest.value;
-            text.line(
-                rt,
-                b't',
-                &[number, rest.rounds, value.numerator, value.denominator],
-            )?;
-        }
-        Err(_) => text.line(rt, b't', &[number, 0, 0, 0])?,
-    }
+    let (number, rest) = asked::two_means(&counts[..places]);
+    let value = rest.value;
+    text.line(
+        rt,
+        b't',
+        &[
+            u64::from(number),
+            rest.rounds,
+            value.numerator,
+            value.denominator,
+        ],
+    )?;
     Ok(text.send(rt)?)
 }
 
@@ -171,9 +168,8 @@ pub(crate) fn sample(rt: &HostRuntime, text: &mut Text, levels: &mut [u8]) -> Re
     let n = request::levels(rt, levels)?;
     let mut numbers = [0u8; 32];
     request::fill(rt, &mut numbers)?;
-    let sampled = asked::sample(&levels[..n], &numbers);
-    let number = u64::from(answers::number(sampled));
-    text.signed_line(rt, b's', number, sampled.unwrap_or(0))?;
+    let (number, value) = asked::sample(&levels[..n], &numbers);
+    text.signed_line(rt, b's', u64::from(number), value)?;
     Ok(text.send(rt)?)
 }
 
@@ -181,8 +177,7 @@ pub(crate) fn sample(rt: &HostRuntime, text: &mut Text, levels: &mut [u8]) -> Re
 pub(crate) fn length(rt: &HostRuntime, text: &mut Text) -> Result<(), Stop> {
     let mut numbers = [0u8; 16];
     request::fill(rt, &mut numbers)?;
-    let length = asked::length(&numbers);
-    let picometres = length.unwrap_or(Picometres::of(0)).amount();
-    text.line(rt, b'l', &[u64::from(answers::number(length)), picometres])?;
+    let (number, picometres) = asked::length(&numbers);
+    text.line(rt, b'l', &[u64::from(number), picometres])?;
     Ok(text.send(rt)?)
 }

@@ -59,7 +59,7 @@ near_is : (i f c : ℕ) (row : List ℕ) → Next (length row) i f c → near i 
 unfolding near
 near_is i f c row p = rw (p.1, p.0) (ap (drop (i - 1)) (sym (take_min (i + 2) row)))
 
-near_nothing : (i : ℕ) → near i [] ≡ []
+pub near_nothing : (i : ℕ) → near i [] ≡ []
 unfolding near
 near_nothing i = rw (take-nil (i + 2), drop-nil (i - 1))
 
@@ -139,3 +139,13 @@ gathered row t t' n f c room inside stored =
     let long : length (take n t ++ columns) ≡ n + c =
     simp (length-append, length-slice f (f + c) row inside, length-take-le n t room) (omega arith) in
     rw (stored.is, listed_part f c row inside) (take_at (take n t ++ columns) _ (n + c) long)
+
+-- the first n of t are the levels of l
+pub record Holds (n : ℕ) (t l : List ℕ) : Type 0 where
+  pub long : length l ≡ n
+  pub levels : take n t ≡ l
+  pub small : AtMost 1020 l
+
+-- and so twice the median of these is that of l
+pub held_median : (n r : ℕ) (t l : List ℕ) → Holds n t l → r ≡ twice_median (take n t) → r ≡ twice_median l
+held_median n r t l p e = e ∙ rw p.levels

@@ -4,10 +4,10 @@ use Prim.Native.Nat.{ℕ, zero, suc, ◌+◌, ◌-◌, ◌*◌, ◌/◌, ◌≤�
 use mathlib.Core.Path.{◌≡◌}
 use native.Mathlib.Nat.{le_trans}
 use native.Mathlib.Omega.{arith}
-use lib.ListN.{length}
-use lib.Seq.{slice}
+use lib.ListN.{length, take}
+use lib.Seq.{slice, take-take}
 use Rattle.arithmetic.specs.Lists.{AtMost}
-use Rattle.arithmetic.proofs.Lists.{most_cons, most_append, most_slice, most_joined}
+use Rattle.arithmetic.proofs.Lists.{most_cons, most_append, most_slice, most_joined, most_take}
 use Rattle.filter.specs.Median.{near, insert, insert_all, sorted, twice_median, block, row_of, pass_row, pass}
 use Rattle.picture.specs.Picture.{Side}
 use Rattle.filter.specs.Filter.{pass_one, pass_two, pass_three}
@@ -25,6 +25,10 @@ most_insert_all : (b : ℕ) (d l : List ℕ) → AtMost b d → AtMost b l → A
 unfolding insert_all
 most_insert_all b d [] p q = p
 most_insert_all b d (x ∷ l) p q = most_insert_all b (insert x d) l (most_insert b x d (q zero) p) (λ i. q (suc i))
+
+-- fewer levels
+pub most_fewer : (b k n : ℕ) (t : List ℕ) → k ≤ n → AtMost b (take n t) → AtMost b (take k t)
+most_fewer b k n t h p = rw (← take-take k n t h) (most_take b k (take n t) p)
 
 -- twice the median
 pub most_median : (b : ℕ) (l : List ℕ) → AtMost b l → twice_median l ≤ b + b

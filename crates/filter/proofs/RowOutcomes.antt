@@ -1,13 +1,37 @@
--- What the call for one row may answer and leave; and a row of no values. Assumes nothing.
+-- What the call for one row may answer and leave; its tests; and a row of no values. Assumes nothing.
 use mathlib.Core.Path.{◌≡◌, ◌∙◌}
 use mathlib.Core.List.{List, ◌++◌}
+use mathlib.Core.Bool.{Bool, true, false}
+use mathlib.Core.Logic.{inl, inr}
 use Prim.Native.Nat.{ℕ, ◌≤◌}
 use lib.ListN.{length, drop}
-use Rattle.arithmetic.specs.Lists.{joined}
+use lib.Dec.{eqb}
+use Rattle.arithmetic.specs.Lists.{joined, AtMost}
 use Rattle.arithmetic.proofs.Lists.{no_elements}
-use Rattle.answers.proofs.Refusals.{past}
+use Rattle.answers.proofs.Refusals.{past, stops, goes_on}
 use Rattle.filter.specs.Median.{row_of}
 use Rattle.filter.specs.Row.{Beside, Small, RowOutcome, row_outcome, RowIs}
+use native.Mathlib.Decide.{ℕ_discrete}
+use borrow.Author.Tests.{eq-eqb, ne_eqb}
+use Rattle.answers.specs.Refusals.{Unless}
+
+-- ---- the tests
+-- a row that has values may lie beside one of n where it has as many
+pub beside_is : (n values : ℕ) → (values ≡ 0 → ⊥) → Unless (Beside n values) (eqb values n ≡ false) (eqb values n ≡ true)
+beside_is n values some = elim (ℕ_discrete values n) [
+  | yes e ↦ goes_on (inr e) (eq-eqb values n e)
+  | no g ↦ stops (neither g) (ne_eqb values n g)
+]
+  where
+    neither : (values ≡ n → ⊥) → Beside n values → ⊥
+    neither g (inl z) = some z
+    neither g (inr e) = g e
+
+-- three rows are small where two are and the last of them is
+pub small_is : (above here below : List ℕ) (t : Bool) → AtMost 1020 above → AtMost 1020 here
+    → Unless (AtMost 1020 below) (t ≡ false) (t ≡ true) → Unless (Small above here below) (t ≡ false) (t ≡ true)
+small_is above here below t a h (inl large) = stops (λ all. large.0 all.2) large.1
+small_is above here below t a h (inr b) = goes_on (a, h, b.0) b.1
 
 -- ---- any row
 -- a row of no values

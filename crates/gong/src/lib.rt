@@ -15,18 +15,8 @@ ghost use Rattle.threshold.specs.TwoMeans.{answered, TwoMeansIs};
 ghost use Rattle.sample.specs.Cubic.{sampled, SampleIs};
 ghost use Rattle.length.specs.Length.{sharpness, LengthIs};
 
-use arithmetic::Fraction;
-use threshold::Resting;
+use threshold::NO_THRESHOLD;
 use units::{Eighths, Picometres, Sixteenths};
-
-// What stands at the pointers where no threshold is found.
-const NO_THRESHOLD: Resting = Resting {
-    rounds: 0,
-    value: Fraction {
-        numerator: 0,
-        denominator: 0,
-    },
-};
 
 // The median, three times: output receives pass three in eighths of a level, work pass two in
 // quarters.

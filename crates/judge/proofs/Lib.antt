@@ -5,6 +5,7 @@ pub mod Spreads
 pub mod InnerRows
 pub mod Ratios
 pub mod Judging
+pub mod Measuring
 pub mod Outcomes
 pub mod Discarding
 pub mod Drawn

@@ -2,11 +2,23 @@
 -- `max` and of `min`); and how large they can be. Assumes nothing.
 use mathlib.Core.Path.{◌≡◌, refl, sym, ap, ◌∙◌}
 use mathlib.Core.List.{List, [], ◌∷◌, foldl}
-use Prim.Native.Nat.{ℕ, suc, ◌≤◌, ◌<◌, min, max}
+use Prim.Native.Nat.{ℕ, suc, ◌≤◌, ◌<◌, min, max, ◌+◌}
 use native.Mathlib.Omega.{arith}
-use lib.ListN.{length}
+use native.Mathlib.Numerals.{add-one}
+use lib.ListN.{length, get_or, drop, drop_of_length-le}
+use lib.Seq.{drop-cons}
 use Rattle.arithmetic.specs.Lists.{AtMost}
 use Rattle.judge.specs.Extremes.{maximum, minimum}
+
+-- what is gathered from a list, from element i on
+module _ (f : ℕ → ℕ → ℕ) (row : List ℕ) (i : ℕ) where
+  -- one element more
+  pub gathered_more : i < length row → (a r : ℕ) → r ≡ f a (get_or row i 0) → foldl f r (drop (i + 1) row) ≡ foldl f a (drop i row)
+  gathered_more p a r e = rw (e, add-one, drop-cons row i 0 p)
+
+  -- none is left
+  pub gathered_all : length row ≤ i → (a : ℕ) → foldl f a (drop i row) ≡ a
+  gathered_all p a = rw (drop_of_length-le row p)
 
 -- what is gathered from a part by itself, put to what was gathered before it
 module _ (f : ℕ → ℕ → ℕ) (one_by_one : (a b c : ℕ) → f (f a b) c ≡ f a (f b c)) where

@@ -1,28 +1,88 @@
 -- Laws of the ratio: the two sides of its condition, how large they are, a power of two below the root, the interval in which
 -- halving finds the ratio, and that it is determined. Assumes nothing.
 use mathlib.Core.Path.{◌≡◌, refl, sym, ap, subst, ◌∙◌}
-use mathlib.Core.Bool.{Bool, true}
+use mathlib.Core.Bool.{Bool, true, false}
 use mathlib.Core.Logic.{inl, inr, ⊎_elim}
-use Prim.Native.Nat.{ℕ, suc, ◌+◌, ◌-◌, ◌*◌, ◌/◌, ◌%◌, ◌^◌, ◌<◌, ◌≤◌}
+use Prim.Native.Nat.{ℕ, suc, ◌+◌, ◌-◌, ◌*◌, ◌/◌, ◌%◌, ◌^◌, ◌<◌, ◌≤◌, zero-le}
 use native.Mathlib.Nat.{mul-le-mul, mul-le-mul_left, mul-le-mul_right, le_trans, le-div_iff_mul-le, div-le_self}
-use native.Mathlib.Nat.{pow-le-pow_right, pow-suc}
+use native.Mathlib.Nat.{pow-le-pow_right, pow-suc, not-le_of_lt}
 use Rattle.std.proofs.lemmas.Nat.{pow-add}
 use native.Mathlib.Omega.{arith}
 use lib.Dec.{leb, lit<, lit≤}
-use borrow.Author.Tests.{leb-true}
+use borrow.Author.Tests.{leb-true, leb-false}
 use Rattle.arithmetic.specs.Greatest.{Greatest, Between}
 use Rattle.arithmetic.proofs.Order.{le_or_lt, of_squares}
 use Rattle.arithmetic.proofs.Greatest.{Falling, one_greatest, reworded}
 use Rattle.judge.specs.Judge.{Reaches, RatioIs}
+use Rattle.judge.proofs.Digits.{product_room}
+
+-- ---- comparing the two sides: the left one times q + 138, once and twice, has room in ten digits
+module _ {v q : ℕ} (left : v ≤ 2 ^ 70) (number : q ≤ 2 ^ 42) where
+  small : q + 138 ≤ 2 ^ 43
+  small = omega arith
+
+  -- once
+  pub once_room : v * (q + 138) < 65536 ^ 10
+  once_room = product_room left small (lit< tt)
+
+  -- and twice
+  pub twice_room : {once : ℕ} → once ≡ v * (q + 138) → once * (q + 138) < 65536 ^ 10
+  twice_room e = rw e (product_room (mul-le-mul left small) small (lit< tt))
+
+-- a number times x twice is that number times the square of x
+pub twice_is_square : (v x : ℕ) {once twice : ℕ} → once ≡ v * x → twice ≡ once * x → twice ≡ x * x * v
+twice_is_square v x e f = rw (f, e) (omega arith)
 
 -- what the answer of a comparison says
 pub answered_yes : (m n : ℕ) {r : Bool} → r ≡ leb m n → r ≡ true → m ≤ n
 answered_yes m n e h = leb-true m n (sym e ∙ h)
 
+-- and where it says no
+pub answered_no : (m n : ℕ) {r : Bool} → r ≡ leb m n → r ≡ false → ¬ (m ≤ n)
+answered_no m n e h = not-le_of_lt (leb-false m n (sym e ∙ h))
+
 -- ---- a power of two below the root
 -- p is at most the root of d, and more than half of it
 abbrev pub BelowRoot : ℕ → ℕ → Type 0
 BelowRoot d p = (1 ≤ p) × (p ≤ 2 ^ 31) × (p * p ≤ d) × (d < 4 * (p * p))
+
+-- `rest` is d divided by 4, rounded down, as often as the power was doubled
+pub record Quartered (d power rest : ℕ) : Type 0 where
+  pub power_some : 1 ≤ power
+  pub rest_some : 1 ≤ rest
+  pub low : power * power * rest ≤ d
+  pub high : d < power * power * (rest + 1)
+
+-- before the first turn
+pub quartered_none : {d : ℕ} → 1 ≤ d → Quartered d 1 d
+quartered_none h = record { power_some = omega arith; rest_some = h; low = omega arith; high = omega arith }
+
+module _ {d power rest : ℕ} (q : Quartered d power rest) where
+  -- one turn more
+  pub quartered_more : 4 ≤ rest → Quartered d (power * 2) (rest / 4)
+  quartered_more h =
+      let square = power * power in
+      let down : 4 * (rest / 4) ≤ rest = omega arith in
+      let up : rest + 1 ≤ 4 * (rest / 4 + 1) = omega arith in
+      record {
+        power_some = omega (arith, q.power_some);
+        rest_some = omega arith;
+        low = omega (arith, mul-le-mul_left square down, q.low);
+        high = omega (arith, mul-le-mul_left square up, q.high);
+      }
+
+  -- the power's square is at most d all along
+  square_most : power * power ≤ d
+  square_most = omega (arith, mul-le-mul_left (power * power) q.rest_some, q.low)
+
+  -- so the power has at most half the bits
+  pub power_most : d ≤ 2 ^ 62 → power ≤ 2 ^ 31
+  power_most h = of_squares (le_trans square_most h)
+
+  -- after the last turn the power is the one below the root
+  pub quartered_last : d ≤ 2 ^ 62 → rest ≤ 3 → BelowRoot d power
+  quartered_last h last =
+      (q.power_some, power_most h, square_most, omega (arith, mul-le-mul_left (power * power) last, q.high))
 
 -- half of d's bits
 pub below_root : (d n : ℕ) → n < 64 → 2 ^ n ≤ d → d < 2 * 2 ^ n → BelowRoot d (1 * 2 ^ (n / 2) % 2 ^ 64)
@@ -92,6 +152,10 @@ pub sides_are : (N span : ℕ) {D d right : ℕ} → d ≡ D → right ≡ produ
 sides_are N span is right_is = record { left_is = ap (λ (n : ℕ). n * 256) is; right_is = right_is }
 
 module _ {N span D left right : ℕ} (sides : Sides N span D left right) where
+  -- how large the left one is
+  pub left_most : D ≤ 2 ^ 62 → left ≤ 2 ^ 70
+  left_most h = omega (arith, sides.left_is)
+
   -- how large the right one is
   pub right_most : N ≤ 1048576 → span ≤ 32640 → right ≤ 2 ^ 84
   right_most n s =
@@ -148,6 +212,10 @@ module _ {N span D left right : ℕ} (sides : Sides N span D left right) where
   -- what halving finds is the ratio
   pub found : {q : ℕ} → Greatest (Compared left right) q → RatioIs N span D q
   found g = inl (reworded to_document of_document g)
+
+  -- where 0 does not reach, there is none
+  pub none_found : ¬ Compared left right 0 → RatioIs N span D 0
+  none_found past = inr ((λ (k : ℕ) h. past (compared_falls left right 0 k zero-le (of_document k h))), refl)
 
 -- ---- for every N, M − m and D
 -- where the ratio is q hundredths or more, it is so for each smaller q

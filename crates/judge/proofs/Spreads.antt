@@ -1,10 +1,10 @@
 -- Laws of the noise: D in natural numbers, that it is never below 0 and at most 2^62, and the sums that the loops gather for it.
 -- Assumes nothing.
-use mathlib.Core.Path.{◌≡◌, refl, sym}
+use mathlib.Core.Path.{◌≡◌, refl, sym, subst}
 use mathlib.Core.Logic.{⊎_elim}
 use mathlib.Core.List.{List}
 use Prim.Native.Nat.{ℕ, zero, suc, ◌+◌, ◌-◌, ◌*◌, ◌<◌, ◌≤◌, ◌^◌}
-use native.Mathlib.Nat.{mul-le-mul, le_trans}
+use native.Mathlib.Nat.{mul-le-mul, le_trans, le_antisymm}
 use native.Mathlib.Numerals.{add-one}
 use native.Mathlib.Omega.{arith}
 use lib.IntN.{pos, ◌-ℤ◌}
@@ -77,6 +77,10 @@ module _ (l f : ℕ → ℕ) where
         lights_most = omega (arith, s.lights_most, lit.1);
         flats_most = omega (arith, s.flats_most, flat.1);
       }
+
+  -- where a loop ends
+  pub sums_done : {k n squares lights flats : ℕ} → k ≤ n → n ≤ k → Sums l f k squares lights flats → Sums l f n squares lights flats
+  sums_done {k} {n} {squares} {lights} {flats} h g s = subst (λ (m : ℕ). Sums l f m squares lights flats) (le_antisymm h g) s
 
   -- with the next n pixels, of which the k-th has l' k and f' k
   pub sums_joined : (l' f' : ℕ → ℕ) (at n : ℕ) → ((k : ℕ) → k < n → l' k ≡ l (at + k)) → ((k : ℕ) → k < n → f' k ≡ f (at + k))

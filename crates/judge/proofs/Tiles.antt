@@ -30,6 +30,28 @@ part_some w columns (suc n) start filtered p =
     let some = p.some_columns in
     simp (length-append, length-take, length-drop) (omega arith)
 
+-- row j of a part lies in the picture
+pub row_inside : (w columns rows start at j : ℕ) (filtered : List ℕ) → Part w columns rows start filtered
+    → at ≡ start + j * w → j < rows → at + columns ≤ length filtered
+row_inside w columns rows start at j filtered p e h =
+    let l : j ≤ rows - 1 = omega arith in
+    omega (arith, mul-le-mul_right w l, p.inside)
+
+-- part a of four side by side lies in the picture, where their rows do
+pub part_inside : (w columns rows start at a : ℕ) (filtered : List ℕ) → 1 ≤ columns → 1 ≤ rows → w ≡ 4 * columns → w ≤ 1024
+    → start + rows * w ≤ length filtered → length filtered ≤ 1048576 → at ≡ start + a * columns → a < 4 → Part w columns rows at filtered
+part_inside w columns rows start at a filtered some_columns some_rows four row_long within long e h =
+    let before : a * columns ≤ 3 * columns = mul-le-mul_right columns (omega arith) in
+    let one : rows ≡ rows - 1 + 1 = omega arith in
+    let last : rows * w ≡ (rows - 1) * w + w = ap (λ (k : ℕ). k * w) one ∙ omega (arith, add-mul (rows - 1) 1 w) in
+    record {
+      some_columns = some_columns;
+      some_rows = some_rows;
+      row_long = row_long;
+      inside = omega (arith, before, last, within, four);
+      long = long;
+    }
+
 -- what the loop over a part's rows knows after j of them
 pub record Rows (w columns start : ℕ) (filtered : List ℕ) (most least j : ℕ) : Type 0 where
   pub most_is : most ≡ foldl max 0 (part w columns j start filtered)

@@ -6,7 +6,7 @@ use native.Mathlib.Omega.{arith}
 use lib.IntN.{pos}
 use Rattle.arithmetic.specs.Greatest.{Greatest, Between}
 use Rattle.arithmetic.specs.Signed.{nat_of}
-use Rattle.arithmetic.proofs.Order.{to_ℤ, of_ℤ, positive}
+use Rattle.arithmetic.proofs.Order.{to_ℤ, of_ℤ, positive, low_natural, high_natural}
 use Rattle.answers.proofs.Refusals.{goes_on}
 use Rattle.arithmetic.proofs.Greatest.{Falling, next_has_not, reworded}
 use Rattle.units.specs.declared.Sixteenths.{Sixteenths}
@@ -23,6 +23,16 @@ pub record Ranged (f p : ℕ) : Type 0 where
   pub factor_high : f ≤ 16384
   pub pixel_low : 1 ≤ p
   pub pixel_high : p ≤ 100000
+
+-- what is in range is so as a natural number
+pub to_natural : (s : Sixteenths) (p : Picometres) → InRange s p → Ranged (nat_of s.0) p.0
+to_natural s p ok =
+    record {
+      factor_low = low_natural s.0 ok.factor_low;
+      factor_high = high_natural s.0 ok.factor_high;
+      pixel_low = ok.pixel_low;
+      pixel_high = ok.pixel_high;
+    }
 
 -- and the other way round; then what halving finds is the document's length
 module _ (s : Sixteenths) (p : Picometres) (ok : Ranged (nat_of s.0) p.0) where

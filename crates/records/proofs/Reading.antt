@@ -5,7 +5,7 @@ use mathlib.Core.List.{List}
 use mathlib.Core.Logic.{inl, inr}
 use Prim.Native.Nat.{ℕ, zero, suc, ◌+◌, ◌<◌, ◌≤◌}
 use native.Mathlib.Decide.{dec_le, dec_lt, ℕ_discrete}
-use native.Mathlib.Nat.{add-zero}
+use native.Mathlib.Nat.{add-zero, zero-add}
 use native.Mathlib.Omega.{arith}
 use lib.ListN.{length}
 use Rattle.answers.proofs.Refusals.{stops, goes_on}
@@ -23,6 +23,11 @@ use Rattle.records.proofs.Outcomes.{faulty, one_record_at, moves_on}
 pub record Before (input : List ℕ) (k at : ℕ) : Type 0 where
   pub then : (j : ℕ) (last : Reply) → Reading input j at last → Reading input (k + j) 0 last
 
+-- before the first byte lies none
+pub none_yet : (input : List ℕ) → Before input 0 0
+none_yet input = record { then = λ j last rest. subst (λ (n : ℕ). Reading input n 0 last) (sym (zero-add j)) rest }
+
+-- and one good record more lies before the offset at which the next one begins
 pub one_more : {input : List ℕ} {k at : ℕ} (r : Reply) (next : ℕ) → Before input k at → RecordIs input at r → Follows r next
     → Before input (k + 1) next
 one_more {input} {k} r next before is follows = record { then = go_on }

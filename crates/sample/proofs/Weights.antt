@@ -1,7 +1,8 @@
 -- The weights of a remainder: each as what it adds less what it takes away, and that the four add to 8,192. Assumes nothing.
 use mathlib.Core.Path.{◌≡◌, sym, ap, ◌∙◌}
-use Prim.Native.Nat.{ℕ, zero, suc, ◌+◌, ◌*◌}
+use Prim.Native.Nat.{ℕ, zero, suc, ◌+◌, ◌*◌, ◌<◌, ◌≤◌}
 use native.Mathlib.Omega.{arith}
+use native.Mathlib.Nat.{mul-le-mul}
 use lib.IntN.{ℤ, pos, sub_ℕ}
 use Rattle.arithmetic.specs.Sums.{sum, sumℤ}
 use Rattle.arithmetic.proofs.Differences.{same_diff, pos_diff, pos_minus, less_plus, less_plus_less, minus_plus}
@@ -32,6 +33,12 @@ weight_is k (suc (suc (suc t))) = less_plus (16 * (k * k)) (k * k * k)
 -- and so is what is computed for the pixel of the same number
 pub by_number : (k : ℕ) {t n : ℕ} {z : ℤ} → t ≡ n → z ≡ sub_ℕ (added k n) (taken k n) → z ≡ weight k t
 by_number k {t} {n} same is = is ∙ sym (weight_is k n) ∙ ap (weight k) (sym same)
+
+-- a remainder's square and its cube are small
+pub powers : {k : ℕ} → k < 16 → (k * k ≤ 225) × (k * k * k ≤ 3375)
+powers {k} small =
+    let most : k ≤ 15 = omega arith in
+    (mul-le-mul most most, mul-le-mul (mul-le-mul most most) most)
 
 -- the weights of each remainder add to 8,192, that is to 1
 pub weights_add : (k : ℕ) → sumℤ 4 (weight k) ≡ pos 8192

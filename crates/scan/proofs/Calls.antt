@@ -20,6 +20,11 @@ use Rattle.scan.specs.Asked.{long, Ready, Coming}
 use Rattle.scan.proofs.Shown.{long_there, long_before, long_past}
 use Rattle.scan.proofs.Turns.{length_pass_three, ready_next, held_next, length_next}
 
+-- a call that is refused
+pub refused_is : {n number rows : ℕ} {held output : List ℕ} → (number ≡ n) × (rows ≡ 0)
+    → scanned number rows held output ≡ scanned n 0 held output
+refused_is {held = held} {output = output} e = λ i. scanned (e.0 i) (e.1 i) held output
+
 -- the rows due, as the code counts them
 pub less_of : {a b x y : ℕ} → a ≡ x → b ≡ y → a - b ≡ x - y
 less_of e f = λ i. e i - f i

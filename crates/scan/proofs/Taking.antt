@@ -105,6 +105,11 @@ module _ (w h k : ℕ) (rows₀ : List ℕ) (f : ℕ → List ℕ) (o₀ : List 
           written = is-o ∙ rw (before, new_is, given_suc i) (sym (append_assoc g more _) ∙ ap (λ (z : List ℕ). g ++ more ++ z) rest);
         }
 
+  -- all n
+  pub taken_all : (i n done : ℕ) (rows o : List ℕ) → i ≡ n → Taken w h k rows₀ f o₀ i done rows o
+      → (rows ≡ later w h k rows₀ f n) × (o ≡ at_front (given start f n) o₀)
+  taken_all i n done rows o e t = rw (← e) (t.are, t.written)
+
 -- ---- the same, in the words of the parts that the code lends: row i of the levels, and the output from `done` on
 module _ (each i at : ℕ) (levels : List ℕ) (is_at : at ≡ i * each) (inside : at + each ≤ length levels) where
   abbrev part : List ℕ

@@ -27,6 +27,14 @@ use Rattle.scan.proofs.Shown.{shown_there, shown_not, length_shown, most_shown, 
 pub place_inside : (w i : ℕ) → i ≤ 1 → i * w + w ≤ w + w
 place_inside w i few = omega (arith, mul-le-mul_right w few)
 
+-- and a row that comes below them fits into the place of the older one
+pub place_fits : (w k late : ℕ) (two row : List ℕ) → Below w k late two row → k % 2 * w + length row ≤ length two
+place_fits w k late two row asked = omega (arith, place_inside w (k % 2) (omega arith), asked.room, row-short asked.beside)
+  where
+    row-short : Beside w (length row) → length row ≤ w
+    row-short (inl z) = omega arith
+    row-short (inr e) = omega arith
+
 -- ---- what is completed
 module _ (w h k late : ℕ) (two row : List ℕ) where
   -- each of the two has w numbers

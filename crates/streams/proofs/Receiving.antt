@@ -1,9 +1,14 @@
--- What a good answer of a stream is, and what came of reading in several reads. Assumes nothing.
-use mathlib.Core.Bool.{true≢false}
-use mathlib.Core.Path.{◌≡◌, sym, ap, subst, ◌∙◌}
+-- What a good answer of a stream is; what came of reading: of a space that did not fail, of one that did, and of one that is filled in
+-- several reads. Assumes nothing.
+use mathlib.Core.Bool.{true, false, true≢false}
+use mathlib.Core.Path.{◌≡◌, refl, sym, ap, subst, ◌∙◌}
 use mathlib.Core.List.{List, ◌++◌}
-use Prim.Native.Nat.{ℕ, ◌+◌, ◌≤◌}
+use Prim.Native.Nat.{ℕ, ◌+◌, ◌≤◌, ◌<◌}
+use native.Mathlib.Omega.{arith}
+use lib.IntN.{ℤ, pos, negsuc}
 use lib.ListN.{length, take}
+use lib.Signed.{lt_z}
+use borrow.Author.Tests.{ltb-true}
 use borrow.Rule.Slice.PartMut.{put_mid, post_of}
 use Rattle.std.specs.Prelude.{Option, Result, Ok, Err, is_ok}
 use Rattle.std.specs.Result.{result_unwrap_or}
@@ -11,12 +16,36 @@ use Rattle.std.specs.Io.KnownBytes.{Consumes}
 use Rattle.std.proofs.lemmas.List.{length-take-le, take-append-le}
 use Rattle.std.proofs.Math.Seq.{take-append-add}
 use Rattle.std.proofs.KnownBytes.{Consumes-trans}
-use Rattle.streams.specs.Streams.{said}
+use Rattle.io.specs.Counts.{clamp_len}
+use Rattle.io.proofs.Counting.{prefix_len_of_le}
+use Rattle.streams.specs.Streams.{Got, Received, said}
 
 -- what is said to be good is what the stream answered
 pub was_good : {A E : Type 0} (r : Result A E) (a : A) → said r ≡ Ok a → r ≡ Ok a
 was_good (Ok x) a h = ap Ok (ap (λ q. result_unwrap_or q x) h)
 was_good (Err e) a h = absurd (true≢false (sym (ap is_ok h)))
+
+-- n bytes came, and no read failed
+pub came : (space : List ℕ) (n : ℕ) → n ≤ length space → Received space (record { failed = false; count = n })
+came space n inside = record { counts = prefix_len_of_le n space inside; none = λ failed. absurd (true≢false (sym failed)) }
+
+-- a part of a space for which a read failed received nothing, and so did the space
+pub nothing_came : (part space : List ℕ) (r : Got) → Received part r → r.failed ≡ true → Received space r
+nothing_came part space r is failed =
+    let zero = is.none failed in
+    record { counts = prefix_len_of_le r.count space (omega arith); none = λ f. zero }
+
+-- what a read's answer says where it is a number, as the system gives one: a negative one, that the read failed
+pub told_failed : (answer : ℤ) (space : List ℕ) → lt_z answer (pos 0) ≡ true
+    → Received space (record { failed = true; count = 0 }) × (true ≡ lt_z answer (pos 0)) × (0 ≡ clamp_len answer (length space))
+told_failed (pos n) space negative = let no : n < 0 = ltb-true n 0 negative in absurd (let z : ⊥ = omega arith in z)
+told_failed (negsuc n) space negative = (record { counts = prefix_len_of_le 0 space (omega arith); none = λ failed. refl }, refl, refl)
+
+-- and one that is not, how many bytes came
+pub told_count : (answer : ℤ) (space : List ℕ) (n : ℕ) → lt_z answer (pos 0) ≡ false → n ≤ length space
+    → n ≡ clamp_len answer (length space)
+    → Received space (record { failed = false; count = n }) × (false ≡ lt_z answer (pos 0)) × (n ≡ clamp_len answer (length space))
+told_count answer space n not_negative inside is = (came space n inside, sym not_negative, is)
 
 -- the front of a space, and the first bytes of what was put behind it
 front_and_more : (xs ys rest : List ℕ) (at n : ℕ) → at ≤ length xs → n ≤ length ys

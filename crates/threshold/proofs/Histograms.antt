@@ -1,9 +1,9 @@
 -- Laws of counting: which values can be counted, what one value more adds to a histogram, and that its total is the number of values.
 -- Assumes nothing.
 use mathlib.Core.Path.{◌≡◌, refl, sym, ◌∙◌}
-use mathlib.Core.Bool.{cond}
+use mathlib.Core.Bool.{cond, Bool, true, false}
 use mathlib.Core.List.{List}
-use mathlib.Core.Logic.{◌≢◌}
+use mathlib.Core.Logic.{◌≢◌, inl, inr}
 use Prim.Native.Nat.{ℕ, zero, suc, ◌+◌, ◌/◌, ◌<◌, ◌≤◌}
 use native.Mathlib.Numerals.{add-one}
 use native.Mathlib.Decide.{ℕ_discrete}
@@ -13,13 +13,23 @@ use lib.ListN.{length, get_or, set, replicate, length-set, length-replicate, get
 use lib.Seq.{get_or-set_same, get_or-set_other}
 use borrow.Author.Tests.{eq-eqb, ne_eqb}
 use Rattle.arithmetic.specs.Sums.{sum}
+use Rattle.arithmetic.specs.Lists.{AtMost}
 use Rattle.arithmetic.proofs.Sums.{sum_none, sum_more, sum_most, sum_same, sum_add}
 use Rattle.threshold.specs.Histogram.{added_at, count_of, total, Countable, tally, Counted}
 use Rattle.threshold.specs.Asked.{added_up_to, Added}
+use Rattle.answers.specs.Refusals.{Unless}
+use Rattle.answers.proofs.Refusals.{stops, goes_on}
 
 -- a value that can be counted has one of 256 levels
 level_below : (values : List ℕ) (k : ℕ) → Countable values → get_or values k 0 / 8 < 256
 level_below values k ok = let b : get_or values k 0 ≤ 2040 = ok.small k in omega arith
+
+-- ---- which values can be counted
+-- as many as may be can be counted if each is at most 2,040
+pub countable_is : (values : List ℕ) (t : Bool) → 1 ≤ length values → length values ≤ 1048576
+    → Unless (AtMost 2040 values) (t ≡ false) (t ≡ true) → Unless (Countable values) (t ≡ false) (t ≡ true)
+countable_is values t some few (inl large) = stops (λ p. large.0 p.small) large.1
+countable_is values t some few (inr small) = goes_on (record { some = some; few = few; small = small.0 }) small.1
 
 -- ---- what is added
 -- what a value x adds at level v

@@ -183,12 +183,12 @@ module _ (h : List ℕ) (T : Fraction) (some : 0 < total h) (within : Within h T
         from_is = high_cut T within.proper (rw is rounded.0) (rw is rounded.1);
       }
 
--- with 256 levels, T's whole part is at most the last, and T rounded up at most the one past it
-module _ {h : List ℕ} {T : Fraction} (levels : length h ≡ 256) (within : (0 < total h) × Within h T) where
-  pub whole_last : T.numerator / T.denominator + 1 ≤ 256
+-- in tables of p places the level past T's whole part has one, and T rounded up
+module _ {h : List ℕ} {T : Fraction} {p : ℕ} (levels : length h + 1 ≡ p) (within : (0 < total h) × Within h T) where
+  pub whole_last : T.numerator / T.denominator + 1 < p
   whole_last = omega (arith, levels, whole_in h T within.0 within.1)
 
-  pub rounded_last : {from : ℕ} → from ≡ div_ceil T.numerator T.denominator → from ≤ 256
+  pub rounded_last : {from : ℕ} → from ≡ div_ceil T.numerator T.denominator → from < p
   rounded_last is = let at = places h T within.0 within.1 is in omega (arith, levels, at.from_in)
 
 -- what is read there, from either table

@@ -23,6 +23,15 @@ pub struct Resting {
     pub value: Fraction,
 }
 
+// The zeros that come back where no threshold is found.
+pub const NO_THRESHOLD: Resting = Resting {
+    rounds: 0,
+    value: Fraction {
+        numerator: 0,
+        denominator: 0,
+    },
+};
+
 // Counts filtered values, in eighths of a level, by their whole levels: place v of the histogram
 // receives how many lie from v up to, not at, v + 1. What the histogram held before is overwritten.
 // Refused, with nothing written, by 10 unless it has 256 places, and by 15 unless there are 1 to
@@ -51,7 +60,7 @@ pub fn two_means(histogram: &[u32]) -> Result<Resting, Refusal>
     if histogram.len() != 256 {
         return Err(Refusal::WrongHistogram);
     }
-    let summed = Summed::of(histogram);
+    let summed = Summed::<257>::of(histogram);
     let total = summed.total();
     if total == 0 {
         return Err(Refusal::EmptyHistogram);

@@ -8,27 +8,27 @@ ghost use Rattle.threshold.specs.Asked.{Tables, Small};
 use crate::{Resting, ends};
 use arithmetic::Fraction;
 
-// A histogram of 256 levels, summed up: for each level and for the one past the last, how many values lie
+// A histogram summed up: for each level and for the one past the last, P places in all, how many values lie
 // below it, and the sum of their levels. With them a round adds nothing up. (Two arrays, since the law over
 // them, `Tables`, is of two lists, of any number of levels.)
 #[derive(Drop)]
-pub(crate) struct Summed<'a> {
+pub(crate) struct Summed<'a, const P: usize> {
     histogram: &'a [u32],
-    below: [u64; 257],
-    sums: [u64; 257],
-    ghost levels: { length histogram.now ≡ 256 },
+    below: [u64; P],
+    sums: [u64; P],
+    ghost levels: { length histogram.now + 1 ≡ P },
     ghost right: { Tables histogram.now below sums },
 }
 
-impl<'a> Summed<'a> {
-    pub(crate) fn of(histogram: &'a [u32]) -> Summed<'a>
-        requires { length histogram.now ≡ 256 }
+impl<'a, const P: usize> Summed<'a, P> {
+    pub(crate) fn of(histogram: &'a [u32]) -> Summed<'a, P>
+        requires { (length histogram.now + 1 ≡ P) × (length histogram.now ≤ 2_048) }
         ensures { result.histogram.now ≡ histogram.now }
     {
         let mut summed = Summed {
             histogram,
-            below: [0; 257],
-            sums: [0; 257],
+            below: [0; P],
+            sums: [0; P],
         };
         let mut number = 0u64;
         let mut sum = 0u64;
@@ -46,7 +46,7 @@ impl<'a> Summed<'a> {
     pub(crate) fn total(&self) -> u64
         ensures { result ≡ total self.now.histogram.now }
     {
-        self.below[256]
+        self.below[self.histogram.len()]
     }
 
     // One round from t. The levels up to t are those below the next whole number above t; the levels
@@ -57,12 +57,13 @@ impl<'a> Summed<'a> {
         requires within { (0 < total self.now.histogram.now) × Within self.now.histogram.now t }
         ensures { result ≡ round_of self.now.histogram.now t }
     {
+        let end = self.histogram.len();
         let up_to = (t.numerator / t.denominator) as usize + 1;
         let from = t.numerator.div_ceil(t.denominator) as usize;
         let low_sum = self.sums[up_to];
         let low_number = self.below[up_to];
-        let high_sum = self.sums[256] - self.sums[from];
-        let high_number = self.below[256] - self.below[from];
+        let high_sum = self.sums[end] - self.sums[from];
+        let high_number = self.below[end] - self.below[from];
         let numerator = low_sum * high_number + high_sum * low_number;
         let denominator = 2 * low_number * high_number;
         Fraction {

@@ -1,4 +1,4 @@
--- the first column is there, then the inner ones, then the last.
+-- the first column is there, then the inner ones, then the last; of two columns the other has the value of the first.
 use Rattle.std.proofs.Common.{length, take, ◌-◌, ◌∙◌, refl, arith}
 use Rattle.std.proofs.Math.ListN.{length-set}
 use Rattle.filter.specs.Asked.{lists, made_of}
@@ -15,13 +15,25 @@ returns-then-last-eq0 g c =
     let cell = cell_is n g.row.N rows c.requires.around.2 0 0 1 v (omega arith) (omega arith, omega arith) c.of_rows.ensures in
     last_stored (made_of n row) n (length_made n row) c.args.out.now refl v 0 (omega arith) cell refl
 
+pub returns-then-last-eq1 : goal.returns-then-last-eq1
+returns-then-last-eq1 g c =
+    let n = length c.args.out.now in
+    let rows = lists c.args.rows in
+    let row = take g.row.N rows in
+    let v = c.of_rows-edge.result in
+    let around = c.requires.around.2 in
+    let first = cell_is n g.row.N rows around 0 0 2 v (omega arith) (omega arith, omega arith) c.of_rows-edge.ensures in
+    let other = cell_is n g.row.N rows around 1 0 2 v (omega arith) (omega arith, omega arith) c.of_rows-edge.ensures in
+    let there = first_stored (made_of n row) n (length_made n row) c.args.out.now refl v c.requires.some first in
+    last_stored (made_of n row) n (length_made n row) _ (length-set c.args.out.now 0 v) v 1 (omega arith) other there
+
 pub inner_columns-requires-clause-there : goal.inner_columns-requires-clause-there
 inner_columns-requires-clause-there g c =
     let n = length c.args.out.now in
     let rows = lists c.args.rows in
     let row = take g.row.N rows in
-    let v = c.of_rows-2.result in
-    let cell = cell_is n g.row.N rows c.requires.around.2 0 0 2 v (omega arith) (omega arith, omega arith) c.of_rows-2.ensures in
+    let v = c.of_rows-edge.result in
+    let cell = cell_is n g.row.N rows c.requires.around.2 0 0 2 v (omega arith) (omega arith, omega arith) c.of_rows-edge.ensures in
     rw (length-set c.args.out.now 0 v) (first_stored (made_of n row) n (length_made n row) c.args.out.now refl v c.requires.some cell)
 
 pub returns : goal.returns
@@ -30,9 +42,9 @@ returns g c =
     let last = n - 1 in
     let rows = lists c.args.rows in
     let row = take g.row.N rows in
-    let v = c.of_rows-3.result in
-    let long = c.inner_columns.auto.out ∙ length-set c.args.out.now 0 c.of_rows-2.result in
+    let v = c.of_rows-2.result in
+    let long = c.inner_columns.auto.out ∙ length-set c.args.out.now 0 c.of_rows-edge.result in
     let around = c.requires.around.2 in
-    let cell = cell_is n g.row.N rows around last (last - 1) 2 v (omega arith) (omega arith, omega arith) c.of_rows-3.ensures in
-    let there = rw (length-set c.args.out.now 0 c.of_rows-2.result) at c.inner_columns.ensures in
+    let cell = cell_is n g.row.N rows around last (last - 1) 2 v (omega arith) (omega arith, omega arith) c.of_rows-2.ensures in
+    let there = rw (length-set c.args.out.now 0 c.of_rows-edge.result) at c.inner_columns.ensures in
     last_stored (made_of n row) n (length_made n row) c.inner_columns.new.out long v last (omega arith) cell there

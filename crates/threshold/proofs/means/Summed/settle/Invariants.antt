@@ -4,7 +4,7 @@ use Rattle.threshold.proofs.Settling.{Going}
 use Rattle.threshold.proofs.means.Summed.settle.Given as goal
 
 abbrev pub invariant-loop-next : goal.invariant-loop-next
-invariant-loop-next l = Going l.usual l.self.histogram.now l.rounds l.t l.next
+invariant-loop-next g l = Going l.usual l.self.histogram.now l.rounds l.t l.next
 
 abbrev pub decreases-loop-next : goal.decreases-loop-next
-decreases-loop-next l = 2 * length l.self.histogram.now - l.rounds
+decreases-loop-next g l = 2 * length l.self.histogram.now - l.rounds
