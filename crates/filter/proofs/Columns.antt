@@ -1,16 +1,25 @@
--- A picture that is one pixel wide: its pixels' blocks are those of the same levels side by side, so a pass over it is a row of its own.
--- Assumes nothing.
+-- A picture of one row; and one that is one pixel wide: its pixels' blocks are those of the same levels side by side. A pass over either
+-- is a row of its own. Assumes nothing.
 use mathlib.Core.Path.{◌≡◌, refl, ap, ◌∙◌}
 use mathlib.Core.List.{List, [], ◌∷◌, ◌++◌, append-nil}
 use Prim.Native.Nat.{ℕ, zero, suc, ◌+◌, ◌-◌, ◌*◌, ◌≤◌, ◌<◌}
+use native.Mathlib.Nat.{zero-mul, zero-add, mul-one}
 use native.Mathlib.Omega.{arith}
-use lib.ListN.{length, drop, length-take, length-drop}
-use lib.Seq.{slice, take_all, take-add, length-slice}
+use lib.ListN.{length, take, drop, length-take, length-drop, drop_of_length-le}
+use lib.Seq.{slice, take_all, drop-nil, take-add, length-slice}
 use Rattle.std.proofs.lemmas.List.{drop-drop}
 use Rattle.arithmetic.specs.Lists.{joined}
 use Rattle.arithmetic.proofs.Lists.{part_is}
 use Rattle.filter.specs.Median.{near, block, twice_median, row_of, pass_row, pass}
 use Rattle.filter.proofs.Blocks.{near_nothing}
+
+-- the only row has none above and none below
+pub single_is : (w h : ℕ) (x : List ℕ) → h ≡ 1 → length x ≡ w * h → row_of [] x [] ≡ pass w h x
+unfolding pass_row pass joined
+single_is w h x one e =
+    let long : length x ≡ w = e ∙ rw one (mul-one w) in
+    let none : slice w (w + w) x ≡ [] = drop_of_length-le (take (w + w) x) {i = w} (simp length-take (omega arith)) in
+    rw (one, zero-mul w, drop-nil (0 - w), zero-add w, take_all w x (omega arith), none)
 
 -- a part of a list, and the part behind it
 slices : (a b c : ℕ) (l : List ℕ) → a ≤ b → b ≤ c → slice a b l ++ slice b c l ≡ slice a c l
@@ -50,7 +59,8 @@ module _ (x : List ℕ) (i : ℕ) (h : i < length x) where
       let few_below : length below ≤ 1 = simp (length-take, length-drop) (omega arith) in
       let next : i + 1 + 1 ≡ i + 2 = omega arith in
       rw (near_nothing i, append-nil (near i x), all_near above few_above, all_near here (omega (arith, here_one)), all_near below few_below)
-      (rw (slices (i - 1) i (i + 1) x (omega arith) (omega arith), slices (i - 1) (i + 1) (i + 1 + 1) x (omega arith) (omega arith), next) (near_part i x))
+      (rw (slices (i - 1) i (i + 1) x (omega arith) (omega arith)) (rw (slices (i - 1) (i + 1) (i + 1 + 1) x (omega arith) (omega arith), next)
+      (near_part i x)))
 
   pixel_is : twice_median (block [] x [] i) ∷ [] ≡ pass_row 1 x i
   unfolding pass_row row_of joined

@@ -6,15 +6,19 @@ use native.Mathlib.Nat.{zero-mul, mul_comm}
 use Rattle.arithmetic.specs.Lists.{joined}
 use Rattle.arithmetic.proofs.Order.{row_end}
 use Rattle.filter.specs.Median.{pass}
-use Rattle.filter.proofs.Columns.{column_is}
+use Rattle.filter.proofs.Columns.{single_is, column_is}
 use Rattle.filter.proofs.Parts.{lent, lent_is, row_more, next_row}
 use Rattle.filter.proofs.passes.one_pass.Goals as goal
+
+pub returns-then-height-eq1 : goal.returns-then-height-eq1
+returns-then-height-eq1 c =
+    c.only_row.ensures ∙ single_is c.args.width c.args.height c.args.values.now c.if-height-eq1.true c.requires.0.whole
 
 pub returns-then-width-eq1 : goal.returns-then-width-eq1
 returns-then-width-eq1 c =
     let one : c.args.width ≡ 1 = omega arith in
     let whole = rw one at c.requires.0.whole in
-    c.only_row.ensures ∙ rw one (column_is c.args.height c.args.values.now (omega (arith, whole)))
+    c.only_row-then-width-eq1.ensures ∙ rw one (column_is c.args.height c.args.values.now (omega (arith, whole)))
 
 pub loop-j-init : goal.loop-j-init
 unfolding joined

@@ -1,4 +1,4 @@
--- rows that are not there are dropped (`only_makes` and so on).
+-- rows that are not there are dropped (`first_makes` and so on).
 use Rattle.std.proofs.Common.{◌≡◌, ◌∙◌, sym, refl, List, ℕ, Bool, true, length}
 use Rattle.std.specs.Bool.{◌==◌}
 use Rattle.std.proofs.lemmas.Bool.{eqb-true}
